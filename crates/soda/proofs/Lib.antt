@@ -1,0 +1,25 @@
+-- Vocabulary.
+pub mod Bools
+pub mod Bits
+pub mod Splits
+pub mod Sorting
+-- Terms and words.
+pub mod Terms
+pub mod Words
+pub mod Roles
+-- Exchanging, regrouping and the normal form.
+pub mod Steps
+pub mod Normal
+pub mod WordSteps
+pub mod EqualForms
+-- The table, and what it means.
+pub mod Tables
+pub mod Joins
+pub mod Parts
+pub mod Notes
+pub mod Multisets
+pub mod Traces
+pub mod Processes
+pub mod Accuracy
+-- The papers' examples.
+pub mod Examples

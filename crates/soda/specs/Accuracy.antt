@@ -1,0 +1,103 @@
+-- What is proved of the algebra: document 01's table says what Definitions 3, 6 and 7 of document 004 say. Statements only.
+use mathlib.Core.Path.{_≡_}
+use mathlib.Core.Logic.{_↔_}
+use mathlib.Core.Bool.{Bool, true, false, So, not, _&&_, _||_}
+use mathlib.Core.List.{List, [], map}
+use Prim.Native.Nat.{ℕ, _<_}
+use lib.Dec.{eqb}
+use lib.ListN.{length}
+use Rattle.soda.specs.Lists.{Split}
+use Rattle.soda.specs.Terms.{Op, Term, ¬ᵗ_, bin, unit, wellFormed}
+use Rattle.soda.specs.Roles.{UA, assigned, grant, revoke, roles, meets}
+use Rattle.soda.specs.Tables.{Execution, table, satisfied, possible, judge, note}
+use Rattle.soda.specs.Multisets.{singleton, multiset, SatM}
+use Rattle.soda.specs.Traces.{Trace, businessOnly, users, actedBelow, execution, noted, SatT}
+use Rattle.soda.specs.Csp.{Accepts}
+use Rattle.soda.specs.Processes.{Users, body, compose, process, SOD, unfinished, finished}
+
+-- T1. The actions that a run takes, with what it notes of them, are possible exactly when the enforcement process has the trace.
+abbrev pub PossibleIsProcess : Type 1
+PossibleIsProcess =
+    (φ : Term) → So (wellFormed φ) → (n : ℕ) (ua : UA) (t : Trace) → So (actedBelow n t)
+    → So (possible φ 0 (noted φ ua t)) ↔ Accepts body (SOD φ n ua) (unfinished t)
+
+-- T2. They satisfy the term exactly when the trace does by Definition 6.
+abbrev pub SatisfiedIsTrace : Type 0
+SatisfiedIsTrace =
+    (φ : Term) → So (wellFormed φ) → (ua : UA) (t : Trace)
+    → So (satisfied φ 0 (noted φ ua t)) ↔ SatT ua t φ
+
+-- T3. With no grant or revocation, exactly when the multiset of the trace's users does by Definition 3 ..
+abbrev pub SatisfiedIsMultiset : Type 0
+SatisfiedIsMultiset =
+    (φ : Term) → So (wellFormed φ) → (ua : UA) (t : Trace) → So (businessOnly t)
+    → So (satisfied φ 0 (noted φ ua t)) ↔ SatM ua (users t) φ
+
+-- .. and the same for any list of users, in whatever order.
+abbrev pub SatisfiedIsUsers : Type 0
+SatisfiedIsUsers =
+    (φ : Term) → So (wellFormed φ) → (ua : UA) (s : List ℕ)
+    → So (satisfied φ 0 (map (λ u. note φ (execution ua u)) s)) ↔ SatM ua (multiset s) φ
+
+-- T4, the paper's Theorem 1: the process has the trace followed by done exactly when the trace satisfies the term.
+abbrev pub Theorem1 : Type 1
+Theorem1 =
+    (φ : Term) → So (wellFormed φ) → (n : ℕ) (ua : UA) (t : Trace) → So (actedBelow n t)
+    → Accepts body (SOD φ n ua) (finished t) ↔ SatT ua t φ
+
+-- Rule 4 of Definition 3 as the paper has it: {u} satisfies not φ exactly when {u} does not satisfy φ.
+abbrev pub Rule4 : Type 0
+Rule4 =
+    (ua : UA) (u : ℕ) (φ : Term) → So (unit φ)
+    → SatM ua (singleton u) (¬ᵗ φ) ↔ (SatM ua (singleton u) φ → ⊥)
+
+-- For a unit term `meets` is Definition 3 at {u}.
+abbrev pub MeetsIsSingleton : Type 0
+MeetsIsSingleton =
+    (ua : UA) (u : ℕ) (φ : Term) → So (unit φ)
+    → So (meets φ u (roles ua u)) ↔ SatM ua (singleton u) φ
+
+-- A unit either or both of Definition 7 may be read by rule 1, or by rules 3 and 4: the traces are the same. For every
+-- operator, term and set of users, finished or not.
+abbrev pub Readings : Type 1
+Readings =
+    (op : Op) (φ ψ : Term) (ua : UA) (U : Users) (t : Trace)
+    → (Accepts body (process (bin op φ ψ) ua U) (unfinished t) ↔ Accepts body (compose op (process φ ua) (process ψ ua) U) (unfinished t))
+    × (Accepts body (process (bin op φ ψ) ua U) (finished t) ↔ Accepts body (compose op (process φ ua) (process ψ ua) U) (finished t))
+
+-- Definition 4: a grant adds the pair (u, r) to UA and nothing else, a revocation removes it and nothing else.
+abbrev pub GrantAddsOne : Type 0
+GrantAddsOne =
+    (ua : UA) (u r : ℕ) → u < length ua → (v s : ℕ)
+    → assigned (grant ua u r) v s ≡ ((eqb v u && eqb s r) || assigned ua v s)
+
+abbrev pub RevokeRemovesOne : Type 0
+RevokeRemovesOne =
+    (ua : UA) (u r : ℕ) → u < length ua → (v s : ℕ)
+    → assigned (revoke ua u r) v s ≡ (not (eqb v u && eqb s r) && assigned ua v s)
+
+-- "Holds some role" is ∃ r. (u, r) ∈ UA.
+abbrev pub SomeRole : Type 0
+SomeRole = (ua : UA) (u : ℕ) → So (not (eqb (roles ua u) 0)) ↔ ((r : ℕ) × So (assigned ua u r))
+
+-- 01: "The empty set satisfies nothing", and it is possible for every term: e is what a column says of it. For any kind of action.
+abbrev pub EmptySet : Type 1
+EmptySet = (A : Type 0) (user : A → ℕ) (met : Term → ℕ → A → Bool) (e : Bool) (φ : Term) (i : ℕ) → table user met e φ i [] ≡ e
+
+-- A part of a possible list of actions is possible, whatever is kept of an action.
+abbrev pub PartIsPossible : Type 1
+PartIsPossible =
+    (A : Type 0) (user : A → ℕ) (met : Term → ℕ → A → Bool) (φ : Term) (i : ℕ) (s l r : List A) → Split s l r
+    → So (table user met true φ i s) → So (table user met true φ i l)
+
+-- What satisfies is possible.
+abbrev pub SatisfiedIsPossible : Type 1
+SatisfiedIsPossible =
+    (A : Type 0) (user : A → ℕ) (met : Term → ℕ → A → Bool) (φ : Term) (i : ℕ) (s : List A)
+    → So (table user met false φ i s) → So (table user met true φ i s)
+
+-- The table over noted bits is the table over what the actions mean, both columns.
+abbrev pub NotedIsMeant : Type 0
+NotedIsMeant =
+    (φ : Term) → So (wellFormed φ) → (s : List Execution)
+    → (satisfied φ 0 (map (note φ) s) ≡ judge false φ s) × (possible φ 0 (map (note φ) s) ≡ judge true φ s)

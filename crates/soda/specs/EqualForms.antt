@@ -1,0 +1,61 @@
+-- What is proved of exchanging, regrouping and the normal form (document 01, "Normal form" and "Equal forms"). Statements only.
+use mathlib.Core.Path.{_≡_}
+use mathlib.Core.Logic.{_↔_}
+use mathlib.Core.Bool.{Bool, So}
+use mathlib.Core.List.{List, _++_, map}
+use Prim.Native.Nat.{ℕ, _≤_}
+use Rattle.soda.specs.Lists.{count, ascending}
+use Rattle.soda.specs.Terms.{Op, Term, bin, unit, wellFormed, size}
+use Rattle.soda.specs.Words.{fits, declared, encode, termLe}
+use Rattle.soda.specs.Tables.{judge}
+use Rattle.soda.specs.Steps.{Steps, WordSteps}
+use Rattle.soda.specs.Normal.{operands, chain, sorted, normalForm}
+
+-- Two terms have the same normal form exactly when exchanges and regroupings lead from one to the other ..
+abbrev pub SameFormIsSteps : Type 0
+SameFormIsSteps = (φ ψ : Term) → So (fits φ) → (normalForm φ ≡ normalForm ψ) ↔ Steps φ ψ
+
+-- .. and their words likewise.
+abbrev pub SameWordsIsWordSteps : Type 0
+SameWordsIsWordSteps =
+    (φ ψ : Term) → So (fits φ) → So (fits ψ)
+    → (encode (normalForm φ) ≡ encode (normalForm ψ)) ↔ WordSteps (encode φ) (encode ψ)
+
+-- What the normal form keeps: unit, well formed, declared, in the layout, the size and how often each word occurs.
+pub record Keeps (φ : Term) : Type 0 where
+  pub same-unit : unit (normalForm φ) ≡ unit φ
+  pub same-formed : wellFormed (normalForm φ) ≡ wellFormed φ
+  pub same-declared : (users roles : ℕ) → declared users roles (normalForm φ) ≡ declared users roles φ
+  pub same-fits : fits (normalForm φ) ≡ fits φ
+  pub same-size : size (normalForm φ) ≡ size φ
+  pub same-words : (w : ℕ) → count w (encode (normalForm φ)) ≡ count w (encode φ)
+
+abbrev pub NormalKeeps : Type 0
+NormalKeeps = (φ : Term) → Keeps φ
+
+-- It is its own normal form.
+abbrev pub NormalIsNormal : Type 0
+NormalIsNormal = (φ : Term) → So (fits φ) → normalForm (normalForm φ) ≡ normalForm φ
+
+-- 01's rule: each operand in normal form, sorted, the chain leaning right.
+abbrev pub NormalIsChain : Type 0
+NormalIsChain =
+    (op : Op) (φ ψ : Term) → So (fits (bin op φ ψ))
+    → normalForm (bin op φ ψ) ≡ chain op (sorted (map normalForm (operands op (bin op φ ψ))))
+
+-- Its operands ascend by their words.
+abbrev pub OperandsAscend : Type 0
+OperandsAscend = (op : Op) (φ : Term) → So (ascending termLe (operands op (normalForm φ)))
+
+-- Related terms are satisfied by the same lists of actions, and the same lists are possible.
+abbrev pub StepsKeepJudgement : Type 0
+StepsKeepJudgement = (φ ψ : Term) → Steps φ ψ → (e : Bool) → judge e φ ≡ judge e ψ
+
+-- Words that begin with those of one term begin with those of no other, and the same words are left over.
+abbrev pub WordsAreOneTerm : Type 0
+WordsAreOneTerm =
+    (φ ψ : Term) (p q : List ℕ) → So (fits φ) → So (fits ψ) → encode φ ++ p ≡ encode ψ ++ q → (φ ≡ ψ) × (p ≡ q)
+
+-- Declared terms of at most 16 users and roles fit.
+abbrev pub DeclaredFits : Type 0
+DeclaredFits = (users roles : ℕ) (φ : Term) → users ≤ 16 → roles ≤ 16 → So (declared users roles φ) → So (fits φ)

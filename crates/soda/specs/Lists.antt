@@ -1,0 +1,52 @@
+-- Lists: tests over their elements, the ways in which a list falls into two, counting and sorting.
+use mathlib.Core.Bool.{Bool, true, false, _&&_, _||_, cond}
+use mathlib.Core.List.{List, [], _∷_, _++_, map}
+use Prim.Native.Nat.{ℕ, _+_}
+use lib.Dec.{eqb}
+
+module _ {A : Type 0} where
+  abbrev pub any : (A → Bool) → List A → Bool
+  any f [] = false
+  any f (x ∷ l) = f x || any f l
+
+  abbrev pub all : (A → Bool) → List A → Bool
+  all f [] = true
+  all f (x ∷ l) = f x && all f l
+
+  abbrev pub toLeft : A → List A × List A → List A × List A
+  toLeft x p = (x ∷ p .0, p .1)
+
+  abbrev pub toRight : A → List A × List A → List A × List A
+  toRight x p = (p .0, x ∷ p .1)
+
+  -- every way in which a list falls into two (document 01: "S falls into two separate sets")
+  abbrev pub splits : List A → List (List A × List A)
+  splits [] = ([], []) ∷ []
+  splits (x ∷ l) = map (toLeft x) (splits l) ++ map (toRight x) (splits l)
+
+  -- the same as a relation: s falls into l and r; so l is a part of s
+  pub data Split : List A → List A → List A → Type 0 where
+    nil : Split [] [] []
+    left : {x : A} {s l r : List A} → Split s l r → Split (x ∷ s) (x ∷ l) r
+    right : {x : A} {s l r : List A} → Split s l r → Split (x ∷ s) l (x ∷ r)
+
+-- how often a number occurs
+abbrev pub count : ℕ → List ℕ → ℕ
+count n [] = 0
+count n (x ∷ l) = cond (eqb n x) 1 0 + count n l
+
+-- sorting by an order; equal elements are all kept
+module _ {A : Type 0} (le : A → A → Bool) where
+  abbrev pub insert : A → List A → List A
+  insert x [] = x ∷ []
+  insert x (y ∷ l) = cond (le x y) (x ∷ y ∷ l) (y ∷ insert x l)
+
+  abbrev pub sort : List A → List A
+  sort [] = []
+  sort (x ∷ l) = insert x (sort l)
+
+  -- no element is above the next
+  abbrev pub ascending : List A → Bool
+  ascending [] = true
+  ascending (x ∷ []) = true
+  ascending (x ∷ y ∷ l) = le x y && ascending (y ∷ l)

@@ -1,0 +1,44 @@
+-- Who holds which roles (document 004, Definition 1), what a grant and a revocation do to it (Definition 4), and when a user
+-- meets a unit term (document 01, "When one person meets a unit term").
+use mathlib.Core.Bool.{Bool, false, not, _&&_, _||_}
+use mathlib.Core.List.{List}
+use Prim.Native.Nat.{ℕ}
+use lib.Dec.{eqb}
+use lib.ListN.{getD, set as put}
+use Rattle.soda.specs.Bits.{bit, setBit, clearBit}
+use Rattle.soda.specs.Terms.{Op, either, both, together, apart, Term, everyone, role, set, ¬ᵗ_, _⁺, bin}
+
+-- The user assignment UA (01: grants): row u is the set of the roles that user u holds, bit r for role r. The users are those
+-- with a row.
+abbrev pub UA : Type 0
+UA = List ℕ
+
+abbrev pub roles : UA → ℕ → ℕ
+roles ua u = getD ua u 0
+
+-- (u, r) ∈ UA
+abbrev pub assigned : UA → ℕ → ℕ → Bool
+assigned ua u r = bit r (roles ua u)
+
+-- UA ∪ {(u, r)} and UA \ {(u, r)}
+abbrev pub grant : UA → ℕ → ℕ → UA
+grant ua u r = put ua u (setBit r (roles ua u))
+
+abbrev pub revoke : UA → ℕ → ℕ → UA
+revoke ua u r = put ua u (clearBit r (roles ua u))
+
+-- Either and both of two answers. Together and apart stand in no unit term.
+abbrev pub meetsOp : Op → Bool → Bool → Bool
+meetsOp either a b = a || b
+meetsOp both a b = a && b
+meetsOp together a b = false
+meetsOp apart a b = false
+
+-- Whether user u, who holds the roles of the set h, meets a unit term. Not is 004's rule 4: a user with no role meets it too.
+abbrev pub meets : Term → ℕ → ℕ → Bool
+meets everyone u h = not (eqb h 0)
+meets (role r) u h = bit r h
+meets (set m) u h = bit u m && not (eqb h 0)
+meets (¬ᵗ φ) u h = not (meets φ u h)
+meets (φ ⁺) u h = false
+meets (bin op φ ψ) u h = meetsOp op (meets φ u h) (meets ψ u h)

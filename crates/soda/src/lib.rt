@@ -1,0 +1,1 @@
+// The separation-of-duty algebra: definitions in specs/, theorems in proofs/, no code.
