@@ -42,7 +42,7 @@ theorem-1 φ w n ua t h =
     let q = judge-is-trace φ w ua t in
     (λ x. q .0 (p .1 x), λ y. p .0 (q .1 y))
 
-map-map : {A B C : Type 0} (f : B → C) (g : A → B) (s : List A) → map f (map g s) ≡ map (λ x. f (g x)) s
+pub map-map : {A B C : Type 0} (f : B → C) (g : A → B) (s : List A) → map f (map g s) ≡ map (λ x. f (g x)) s
 map-map f g [] = refl
 map-map f g (x ∷ s) = ap (λ l. f (g x) ∷ l) (map-map f g s)
 

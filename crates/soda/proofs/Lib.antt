@@ -20,6 +20,7 @@ pub mod Notes
 pub mod Multisets
 pub mod Traces
 pub mod Processes
+pub mod Endings
 pub mod Accuracy
 -- The papers' examples.
 pub mod Examples

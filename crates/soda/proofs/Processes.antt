@@ -21,25 +21,25 @@ use Rattle.soda.proofs.Traces.{si-split, split-si, is-nil}
 
 -- ── traces of processes taken apart ──
 module _ {Σ N : Type 0} {def : N → Process Σ N} where
-  call-out : {n : N} {t : List Σ} → Accepts def (call n) t → Accepts def (def n) t
+  pub call-out : {n : N} {t : List Σ} → Accepts def (call n) t → Accepts def (def n) t
   call-out (by-call h) = h
 
-  choice-out : {p q : Process Σ N} {t : List Σ} → Accepts def (choice p q) t → Accepts def p t ⊎ Accepts def q t
+  pub choice-out : {p q : Process Σ N} {t : List Σ} → Accepts def (choice p q) t → Accepts def p t ⊎ Accepts def q t
   choice-out (by-left h) = inl h
   choice-out (by-right h) = inr h
 
-  prefix-out : {E : Σ → Bool} {p : Σ → Process Σ N} {e : Σ} {t : List Σ} → Accepts def (prefix E p) (e ∷ t) → So (E e) × Accepts def (p e) t
+  pub prefix-out : {E : Σ → Bool} {p : Σ → Process Σ N} {e : Σ} {t : List Σ} → Accepts def (prefix E p) (e ∷ t) → So (E e) × Accepts def (p e) t
   prefix-out (by-prefix h k) = (h, k)
 
-  some-out : {I : Type 0} {p : I → Process Σ N} {t : List Σ} → Accepts def (some I p) t → (i : I) × Accepts def (p i) t
+  pub some-out : {I : Type 0} {p : I → Process Σ N} {t : List Σ} → Accepts def (some I p) t → (i : I) × Accepts def (p i) t
   some-out (by-some i h) = (i, h)
 
-  parallel-out : {E : Σ → Bool} {p q : Process Σ N} {t : List Σ} → Accepts def (parallel E p q) t
+  pub parallel-out : {E : Σ → Bool} {p q : Process Σ N} {t : List Σ} → Accepts def (parallel E p q) t
       → (l : List Σ) × (r : List Σ) × Accepts def p l × Accepts def q r × Merge E t l r
   parallel-out (by-parallel {t₁ = l} {t₂ = r} h k m) = (l, r, h, k, m)
 
   -- an event that a process does not wait for
-  refuses : {E : Σ → Bool} {p : Σ → Process Σ N} {e : Σ} {t : List Σ} → E e ≡ false → Accepts def (prefix E p) (e ∷ t) → ⊥
+  pub refuses : {E : Σ → Bool} {p : Σ → Process Σ N} {e : Σ} {t : List Σ} → E e ≡ false → Accepts def (prefix E p) (e ∷ t) → ⊥
   refuses f h = false≢true (sym f ∙ prefix-out h .0)
 
 -- ── merges ──
@@ -64,7 +64,7 @@ merge-all : {Σ : Type 0} (t : List Σ) → Merge (λ e. true) t t t
 merge-all [] = m-nil
 merge-all (e ∷ t) = m-both refl (merge-all t)
 
-all-merge : {Σ : Type 0} {t l r : List Σ} → Merge (λ e. true) t l r → (l ≡ t) × (r ≡ t)
+pub all-merge : {Σ : Type 0} {t l r : List Σ} → Merge (λ e. true) t l r → (l ≡ t) × (r ≡ t)
 all-merge m-nil = (refl, refl)
 all-merge (m-both {e = e} h m) = let k = all-merge m in (ap (λ x. e ∷ x) (k .0), ap (λ x. e ∷ x) (k .1))
 all-merge (m-left h m) = never h
@@ -100,7 +100,7 @@ merge-si e (s ∷ t) (m-right h m) = let f = merge-si e t m in
     record { one = f .one; two = s ∷ f .two; si = si-right h (f .si); is-one = f .is-one; is-two = ap (λ x. event s ∷ x) (f .is-two) }
 
 -- ── FIN, rules 1 and 2 ──
-abbrev Has : P → List Symbol → Type 1
+abbrev pub Has : P → List Symbol → Type 1
 Has p t = Accepts body p t
 
 -- everyone who acts is in U
@@ -153,19 +153,19 @@ Told b U s = So b × So (within U s)
 
 -- a trace of what rules 1 and 2 share, by its first symbol
 module _ (φ : Term) (U : Users) (ua : UA) (n : UA → Name) (p : P) {t : List Symbol} where
-  done-out : Has (waiting φ U ua n p) (done ∷ t) → ⊥
+  pub done-out : Has (waiting φ U ua n p) (done ∷ t) → ⊥
   done-out h = elim (choice-out h) [ inl x ↦ refuses refl x | inr y ↦ elim (choice-out y) [ inl z ↦ refuses refl z | inr z ↦ refuses refl z ] ]
 
-  taken-out : {u a : ℕ} → Has (waiting φ U ua n p) (event (business u a) ∷ t) → So (U u) × So (meets φ u (roles ua u)) × Has p t
+  pub taken-out : {u a : ℕ} → Has (waiting φ U ua n p) (event (business u a) ∷ t) → So (U u) × So (meets φ u (roles ua u)) × Has p t
   taken-out {u} {a} h = elim (choice-out h) [
     | inl x ↦ let (k, f) = prefix-out x in let (v, m) = and-split (U u) (meets φ u (roles ua u)) k in (v, m, f)
     | inr y ↦ elim (choice-out y) [ inl z ↦ absurd (refuses refl z) | inr z ↦ absurd (refuses refl z) ]
   ]
 
-  added-out : {u r : ℕ} → Has (waiting φ U ua n p) (event (addUA u r) ∷ t) → Has (call (n (grant ua u r))) t
+  pub added-out : {u r : ℕ} → Has (waiting φ U ua n p) (event (addUA u r) ∷ t) → Has (call (n (grant ua u r))) t
   added-out h = elim (choice-out h) [ inl x ↦ absurd (refuses refl x) | inr y ↦ elim (choice-out y) [ inl z ↦ prefix-out z .1 | inr z ↦ absurd (refuses refl z) ] ]
 
-  removed-out : {u r : ℕ} → Has (waiting φ U ua n p) (event (rmUA u r) ∷ t) → Has (call (n (revoke ua u r))) t
+  pub removed-out : {u r : ℕ} → Has (waiting φ U ua n p) (event (rmUA u r) ∷ t) → Has (call (n (revoke ua u r))) t
   removed-out h = elim (choice-out h) [ inl x ↦ absurd (refuses refl x) | inr y ↦ elim (choice-out y) [ inl z ↦ absurd (refuses refl z) | inr z ↦ prefix-out z .1 ] ]
 
 once-out : (φ : Term) (U : Users) (e : Bool) (t : Trace) (ua : UA) → Has (call (once φ U ua)) (ending e t) → Told (single e (metBy φ) (executed ua t)) U (executed ua t)

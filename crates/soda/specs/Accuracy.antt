@@ -2,7 +2,7 @@
 use mathlib.Core.Path.{_≡_}
 use mathlib.Core.Logic.{_↔_}
 use mathlib.Core.Bool.{Bool, true, false, So, not, _&&_, _||_}
-use mathlib.Core.List.{List, [], map}
+use mathlib.Core.List.{List, [], _∷_, _++_, map}
 use Prim.Native.Nat.{ℕ, _<_}
 use lib.Dec.{eqb}
 use lib.ListN.{length}
@@ -13,7 +13,7 @@ use Rattle.soda.specs.Tables.{Execution, table, satisfied, possible, jud
 use Rattle.soda.specs.Multisets.{singleton, multiset, SatM}
 use Rattle.soda.specs.Traces.{Trace, businessOnly, users, actedBelow, execution, noted, SatT}
 use Rattle.soda.specs.Csp.{Accepts}
-use Rattle.soda.specs.Processes.{Users, body, compose, process, SOD, unfinished, finished}
+use Rattle.soda.specs.Processes.{Symbol, Users, body, compose, process, SOD, unfinished, finished}
 
 -- T1. The actions that a run takes, with what it notes of them, are possible exactly when the enforcement process has the trace.
 abbrev pub PossibleIsProcess : Type 1
@@ -64,6 +64,11 @@ Readings =
     (op : Op) (φ ψ : Term) (ua : UA) (U : Users) (t : Trace)
     → (Accepts body (process (bin op φ ψ) ua U) (unfinished t) ↔ Accepts body (compose op (process φ ua) (process ψ ua) U) (unfinished t))
     × (Accepts body (process (bin op φ ψ) ua U) (finished t) ↔ Accepts body (compose op (process φ ua) (process ψ ua) U) (finished t))
+
+-- Nothing follows done in a trace of a process.
+abbrev pub NothingFollowsDone : Type 1
+NothingFollowsDone =
+    (φ : Term) (ua : UA) (U : Users) (t : Trace) (s : Symbol) (l : List Symbol) → Accepts body (process φ ua U) (finished t ++ (s ∷ l)) → ⊥
 
 -- Definition 4: a grant adds the pair (u, r) to UA and nothing else, a revocation removes it and nothing else.
 abbrev pub GrantAddsOne : Type 0
