@@ -1,0 +1,8 @@
+pub mod Refusals
+pub mod Masks
+pub mod Grammar
+pub mod Sides
+pub mod Scanning
+pub mod Shaped
+pub mod Accepted
+pub mod Examples

@@ -1,0 +1,7 @@
+pub mod Refusals
+pub mod Words
+pub mod Reading
+pub mod Shapes
+pub mod Scans
+-- What is proved of them.
+pub mod Accepted

@@ -1,0 +1,62 @@
+-- Reading a policy (document 01: 5, then 1 to 4), and the unit terms that a user meets.
+use mathlib.Core.Bool.{Bool, true, false, not, _&&_, cond}
+use mathlib.Core.List.{List, [], _∷_}
+use mathlib.Core.Option.{Option, some, none}
+use Prim.Native.Nat.{ℕ}
+use lib.Dec.{leb, eqb}
+use lib.ListN.{length}
+use Rattle.soda.specs.Lists.{all}
+use Rattle.soda.specs.Terms.{Term, unit, wellFormed, marks}
+use Rattle.soda.specs.Tables.{metBits}
+use Rattle.policy.specs.Refusals.{_gives_, code}
+use Rattle.policy.specs.Words.{wordOk, decode}
+use Rattle.policy.specs.declared.PolicyRead.{PolicyRead}
+use Rattle.policy.specs.declared.PolicyRead.the-variants.{Accepted, Refused}
+
+-- users and roles are each 1 to 16
+abbrev pub countOk : ℕ → Bool
+countOk n = leb 1 n && leb n 16
+
+-- a policy is 1 to 31 words
+abbrev pub lengthOk : ℕ → Bool
+lengthOk n = leb 1 n && leb n 31
+
+abbrev pub isTerm : Option Term → Bool
+isTerm none = false
+isTerm (some φ) = true
+
+-- every not and plus stands over a unit term (asked only where there is a term)
+abbrev pub isFormed : Option Term → Bool
+isFormed none = true
+isFormed (some φ) = wellFormed φ
+
+-- 01's order: 5, 1, 2, 3, 4
+abbrev pub refusals : ℕ → ℕ → List ℕ → List (Bool × ℕ)
+refusals users roles ws =
+    (not (countOk users && countOk roles) gives 5)
+    ∷ (not (lengthOk (length ws)) gives 1)
+    ∷ (not (all (wordOk users roles) ws) gives 2)
+    ∷ (not (isTerm (decode ws)) gives 3)
+    ∷ (not (isFormed (decode ws)) gives 4)
+    ∷ []
+
+-- the mask of the words that begin unit terms
+abbrev pub unitsOf : Option Term → ℕ
+unitsOf none = 0
+unitsOf (some φ) = marks unit φ
+
+-- the answer: the word count and that mask, or a number with nothing else
+abbrev pub answer : ℕ → List ℕ → PolicyRead
+answer k ws = cond (eqb k 0) (Accepted (length ws) (unitsOf (decode ws))) (Refused k)
+
+unfoldable pub readPolicy : ℕ → ℕ → List ℕ → PolicyRead
+readPolicy users roles ws = answer (code (refusals users roles ws)) ws
+
+-- For each word that begins a unit term, whether a user who holds these roles meets it, bit i for word i. Words that are not
+-- exactly one term of 1 to 31 words give 0.
+abbrev pub metIn : Option Term → ℕ → ℕ → ℕ
+metIn none u h = 0
+metIn (some φ) u h = metBits φ u h
+
+unfoldable pub metOf : List ℕ → ℕ → ℕ → ℕ
+metOf ws u h = cond (lengthOk (length ws)) (metIn (decode ws) u h) 0
