@@ -1,0 +1,95 @@
+-- The workspace can be filled for a well-formed instance, with one more action by a declared user too; it then is filled.
+use mathlib.Core.Path.{_≡_, refl}
+use mathlib.Core.Bool.{Bool, So, _&&_}
+use mathlib.Core.List.{List, [], _∷_, _++_}
+use mathlib.Core.Option.{Option, some, none}
+use Prim.Native.Nat.{ℕ, _≤_, _<_}
+use native.Mathlib.Numerals.{add-one}
+use native.Mathlib.Omega.{arith}
+use lib.Bits.{bitAnd}
+use lib.Dec.{leb, ltb, eqb}
+use lib.ListN.{length}
+use lib.Seq.{take-suc-set}
+use borrow.Author.Tests.{le-leb, leb-true}
+use Rattle.soda.specs.Lists.{all}
+use Rattle.soda.specs.Terms.{Term, wellFormed}
+use Rattle.soda.proofs.Bools.{never, and-split, and-join, so-lt, lt-so}
+use Rattle.soda.proofs.Splits.{split-append, all-parts}
+use Rattle.policy.specs.Words.{decode}
+use Rattle.policy.specs.Reading.{lengthOk, isTerm, isFormed, unitsOf}
+use Rattle.workspace.specs.declared.Action.{Action}
+use Rattle.workspace.specs.Workspace.{filled, isFillable, fillOf}
+use Rattle.monitor.specs.declared.Instance.{Instance}
+use Rattle.monitor.specs.Instances.{policyOf, takenOf, term, withAction, actionOk}
+use Rattle.monitor.specs.Calls.{Fillable}
+use Rattle.monitor.proofs.Formed.{Formed, formed-read}
+
+-- a user that the workspace has a bit for
+abbrev known : Action → Bool
+known a = ltb (a .user) 16
+
+fillable-term : (t : Option Term) (l : List Action) (room : List ℕ) → So (isTerm t) → So (isFormed t) → So (all known l) → 8192 ≤ length room
+    → So (isFillable t l room)
+fillable-term none l room h f a n = never h
+fillable-term (some φ) l room h f a n =
+    and-join (wellFormed φ) (all known l && leb 8192 (length room)) f (and-join (all known l) (leb 8192 (length room)) a (le-leb 8192 (length room) n))
+
+-- by its parts
+pub fillable : (i : Instance) (room : List ℕ) → i .words ≤ 31 → So (lengthOk (length (policyOf i))) → So (isTerm (decode (policyOf i)))
+    → So (isFormed (decode (policyOf i))) → i .taken ≤ 12 → So (all known (takenOf i)) → 8192 ≤ length room → Fillable i room
+fillable i room w p t f k a n = record {
+  words-most = w;
+  fills =
+      let r = isFillable (decode (policyOf i)) (takenOf i) room in
+      and-join (lengthOk (length (policyOf i))) (leb (i .taken) 12 && r) p
+      (and-join (leb (i .taken) 12) r (le-leb (i .taken) 12 k) (fillable-term (decode (policyOf i)) (takenOf i) room t f a n));
+}
+
+-- an accepted action's user is one
+all-known : (users units : ℕ) (l : List Action) → users ≤ 16 → So (all (actionOk users units) l) → So (all known l)
+all-known users units [] m h = refl
+all-known users units (a ∷ l) m h =
+    let (p, q) = and-split (actionOk users units a) (all (actionOk users units) l) h in
+    let u = and-split (ltb (a .user) users) (eqb (bitAnd (a .met) units) (a .met)) p .0 in
+    and-join (known a) (all known l) (lt-so (a .user) 16 (omega (arith, so-lt (a .user) users u))) (all-known users units l m q)
+
+-- one more action
+pub taken-more : (i : Instance) (a : Action) → i .taken < length (i .actions) → takenOf (withAction i a) ≡ takenOf i ++ (a ∷ [])
+taken-more i a h = rw (add-one, take-suc-set (i .actions) (i .taken) a)
+
+module _ (i : Instance) (room : List ℕ) (f : Formed i) (long : 8192 ≤ length room) where
+  users-known : So (all known (takenOf i))
+  users-known = all-known (i .users) (unitsOf (decode (policyOf i))) (takenOf i) (formed-read i f .users-most) (f .actions-ok)
+
+  pub fillable-formed : Fillable i room
+  fillable-formed = fillable i room (f .words-most) (formed-read i f .long) (formed-read i f .term) (formed-read i f .formed) (f .taken-most) users-known long
+
+  pub fillable-more : (a : Action) → i .taken < 12 → i .taken < length (i .actions) → a .user < i .users → Fillable (withAction i a) room
+  fillable-more a free within u =
+      fillable (withAction i a) room (f .words-most) (formed-read i f .long) (formed-read i f .term) (formed-read i f .formed) (omega arith)
+      (rw (taken-more i a within) (all-parts known (split-append (takenOf i) (a ∷ [])) users-known (and-join (known a) _ (lt-so (a .user) 16 (omega (arith, formed-read i f .users-most))) refl)))
+      long
+
+-- what the condition says of the workspace and of the number of actions
+module _ (i : Instance) (room : List ℕ) (h : Fillable i room) where
+  rest : So (leb (i .taken) 12) × So (isFillable (decode (policyOf i)) (takenOf i) room)
+  rest =
+      let r = isFillable (decode (policyOf i)) (takenOf i) room in
+      and-split (leb (i .taken) 12) r (and-split (lengthOk (length (policyOf i))) (leb (i .taken) 12 && r) (h .fills) .1)
+
+  pub taken-few : i .taken ≤ 12
+  taken-few = leb-true (i .taken) 12 (rest .0)
+
+  pub room-long : 8192 ≤ length room
+  room-long = go (decode (policyOf i)) (rest .1)
+    where
+      go : (t : Option Term) → So (isFillable t (takenOf i) room) → 8192 ≤ length room
+      go none k = never k
+      go (some φ) k =
+          let r = and-split (wellFormed φ) (all known (takenOf i) && leb 8192 (length room)) k .1 in
+          leb-true 8192 (length room) (and-split (all known (takenOf i)) (leb 8192 (length room)) r .1)
+
+-- so it is filled
+pub fill-is : (i : Instance) (room : List ℕ) → Fillable i room → fillOf (policyOf i) (i .actions) (i .taken) room ≡ filled (term i) (takenOf i) room
+unfolding fillOf
+fill-is i room h = rw (h .fills)

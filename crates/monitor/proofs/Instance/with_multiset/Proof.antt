@@ -1,0 +1,96 @@
+-- The loop keeps what the actions of the users that are left will give.
+use mathlib.Core.Path.{_≡_, refl, sym, ap, _∙_}
+use mathlib.Core.List.{List, _∷_, map}
+use Prim.Native.Nat.{ℕ, _+_, _-_, _≤_, _<_}
+use native.Mathlib.Numerals.{add-one}
+use native.Mathlib.Omega.{arith}
+use borrow.Author.Needs.{needs}
+use lib.ListN.{length, getD, drop, replicate, length-replicate, drop-of-length-le}
+use lib.Seq.{drop-cons}
+use Rattle.workspace.specs.declared.Action.{Action}
+use Rattle.monitor.specs.Instances.{notedFor}
+use Rattle.monitor.specs.MultisetTest.{total, listed}
+use Rattle.monitor.specs.Calls.{adding}
+use Rattle.monitor.proofs.Adding.{adding-number, adding-listed}
+use Rattle.monitor.proofs.Instance.with_multiset.Statement.{statement}
+use Rattle.monitor.proofs.Instance.with_multiset.Tie as tie
+
+abbrev Inv-loop : tie.InvT-loop
+Inv-loop self counts next₀ user₀ next user =
+    (user ≤ 16) × (next .taken + total (drop user counts) ≤ 12)
+    × (adding next (map (notedFor self) (listed user (drop user counts))) ≡ adding self (map (notedFor self) (listed 0 counts)))
+
+abbrev μ-loop : tie.MeasureT-loop
+μ-loop self counts next₀ user₀ next user = 16 - user
+
+loop-holds : tie.Need-loop-holds Inv-loop μ-loop
+loop-holds c = (omega arith, omega arith, refl)
+
+cast-noted : tie.Need-cast-noted Inv-loop μ-loop
+cast-noted c = search needs
+
+noted-requires : tie.Need-noted-requires Inv-loop μ-loop
+noted-requires c κs = search needs
+
+array-read-with-actions : tie.Need-array-read-with-actions Inv-loop μ-loop
+array-read-with-actions c = search needs
+
+-- the counts from a user on: the user's own, then the others'
+module _ (l : tie.In-loop Inv-loop μ-loop) where
+  counts-next : let at = l .before in let counts = at .before .args .t2 in
+      drop (at .loop .user) counts ≡ getD counts (at .loop .user) 0 ∷ drop (at .loop .user + 1) counts
+  counts-next = let at = l .before in let counts = at .before .args .t2 in
+      let within : at .loop .user < length counts = omega (arith, at .before .good .1 .0 .1 .0 .1) in
+      rw add-one (drop-cons counts (at .loop .user) 0 within)
+
+  room : let at = l .before in let counts = at .before .args .t2 in
+      at .loop .next .taken + (getD counts (at .loop .user) 0 + total (drop (at .loop .user + 1) counts)) ≤ 12
+  room = rw counts-next at (l .before .loop .inv .1)
+
+with-actions-requires : tie.Need-with-actions-requires Inv-loop μ-loop
+with-actions-requires c κs = omega (arith, room (c .before))
+
+add-user : tie.Need-add-user Inv-loop μ-loop
+add-user c = search needs
+
+loop-less : tie.Need-loop-less Inv-loop μ-loop
+loop-less c = omega arith
+
+loop-again : tie.Need-loop-again Inv-loop μ-loop
+loop-again c =
+    let n = c .before in
+    let at = n .before .before in
+    let i = at .before .args .self in
+    let counts = at .before .args .t2 in
+    let k : ℕ = getD counts (at .loop .user) 0 in
+    let rest : List ℕ = drop (at .loop .user + 1) counts in
+    let own : List Action = replicate k (notedFor i (at .loop .user)) in
+    let is : c .with-actions .result ≡ adding (at .loop .next) own = c .with-actions .ensures ∙ ap (λ (a : Action). adding (at .loop .next) (replicate k a)) (n .noted .ensures) in (
+      omega arith,
+      rw is (omega (arith, room (n .before), adding-number (at .loop .next) own, length-replicate {A = Action} k (notedFor i (at .loop .user)))),
+      rw is (ap (λ (v : ℕ). adding (adding (at .loop .next) own) (map (notedFor i) (listed v rest))) (add-one (at .loop .user))
+          ∙ sym (adding-listed (at .loop .next) i (at .loop .user) k rest) ∙ (rw (counts-next (n .before)) at (at .loop .inv .2))),
+    )
+
+returns : tie.Need-returns Inv-loop μ-loop
+returns c =
+    let at = c .before in
+    let counts = at .before .args .t2 in
+    let past : length counts ≤ at .loop .user = omega (arith, at .before .good .1 .0 .1 .0 .1) in
+    rw (drop-of-length-le counts past) at (at .loop .inv .2)
+
+pub with-multiset-spec : {M : Type 1} → statement M
+with-multiset-spec =
+    tie.close
+    (tie.spec
+    Inv-loop
+    μ-loop
+    loop-holds
+    cast-noted
+    noted-requires
+    array-read-with-actions
+    with-actions-requires
+    add-user
+    loop-less
+    loop-again
+    returns)

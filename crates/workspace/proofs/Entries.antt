@@ -1,0 +1,265 @@
+-- What stands in the tables: a set entered, and the sets of one action more.
+use mathlib.Core.Path.{_≡_, refl, sym, _∙_, ap, ap₂, subst}
+use mathlib.Core.Bool.{Bool, true, false, _&&_, _||_, and-true, and-assoc, or-false}
+use mathlib.Core.List.{List, [], _∷_, _++_, map}
+use mathlib.Core.Logic.{_⊎_, inl, inr}
+use Prim.Native.Nat.{ℕ, zero, suc, _+_, _/_, _^_, _≤_, _<_}
+use native.Mathlib.Nat.{eq-or-lt-of-le, pow-suc, lt-of-lt-of-le}
+use native.Mathlib.Omega.{arith}
+use lib.Bits.{bitAnd, bitOr}
+use lib.Dec.{eqb}
+use lib.ListN.{length, getD, set, length-set, length-map, List·getD-eq-default}
+use lib.Pow.{pow-mono}
+use lib.Seq.{getD-set-same, getD-set-other}
+use Rattle.soda.specs.Bits.{bit, number}
+use Rattle.soda.specs.Lists.{all}
+use Rattle.soda.specs.Terms.{Term, size}
+use Rattle.soda.specs.Tables.{acts}
+use Rattle.soda.proofs.Bools.{same-test, eq-so, so-eq}
+use Rattle.soda.proofs.Bits.{bit-number}
+use Rattle.soda.proofs.Splits.{any-append}
+use Rattle.workspace.specs.Workspace.{range, select, judged, rowOf}
+use Rattle.workspace.specs.Steps.{place, Column, Next, Suited, Acting, Noted, RowIs, RowOf, Tables, tables, Long, Entry, Known, Cleared, Kept, Entered, Added, AddedAll}
+use Rattle.workspace.specs.declared.Action.{Action}
+use Rattle.workspace.specs.declared.Masks.{Masks}
+use Rattle.workspace.proofs.Digits.{lt-or-le, bit-and, bit-or, bit-shr, bit-power, bit-ext}
+use Rattle.workspace.proofs.Select.{select-next}
+
+-- ── a row as a word of the workspace ──
+pub length-range : (i n : ℕ) → length (range i n) ≡ n
+length-range i zero = refl
+length-range i (suc n) = ap suc (length-range (suc i) n)
+
+pub map-range : {A : Type 0} (f : ℕ → A) (d : A) (i n k : ℕ) → k < n → getD (map f (range i n)) k d ≡ f (i + k)
+map-range f d i zero k h = absurd (omega arith)
+map-range f d i (suc n) zero h = let e : i ≡ i + 0 = omega arith in ap f e
+map-range f d i (suc n) (suc k) h = let e : suc i + k ≡ i + suc k = omega arith in map-range f d (suc i) n k (omega arith) ∙ ap f e
+
+number-lt : (l : List Bool) → number l < 2 ^ length l
+number-lt [] = omega arith
+number-lt (true ∷ l) = omega (arith, number-lt l, pow-suc 2 (length l))
+number-lt (false ∷ l) = omega (arith, number-lt l, pow-suc 2 (length l))
+
+row-number : (e : Bool) (φ : Term) (l : List Action) (s row right w : ℕ) → size φ ≤ 31 → RowIs φ (select s l) row right → Column e row w → w < 2 ^ 32 → w ≡ rowOf e φ l s
+unfolding rowOf
+row-number e φ l s row right w short r c h = bit-ext 32 w (number digits) h fits (λ i b. c i b ∙ at i b (lt-or-le i (size φ)) ∙ sym (bit-number digits i))
+  where
+    digits : List Bool
+    digits = map (judged e φ (select s l)) (range 0 (size φ))
+
+    long : length digits ≡ size φ
+    long = length-map (range 0 (size φ)) (judged e φ (select s l)) ∙ length-range 0 (size φ)
+
+    fits : number digits < 2 ^ 32
+    fits = lt-of-lt-of-le (number-lt digits) (pow-mono {j = 32} (omega (arith, long)))
+
+    at : (i : ℕ) → i < 32 → (i < size φ) ⊎ (size φ ≤ i) → bit (place e i) row ≡ getD digits i false
+    at i b (inl k) = let z : 0 + i ≡ i = omega arith in r .here e i k ∙ sym (map-range (judged e φ (select s l)) false 0 (size φ) i k ∙ ap (judged e φ (select s l)) z)
+    at i b (inr k) = r .past e i k b ∙ sym (List·getD-eq-default digits false (omega (arith, long)))
+
+-- ── one set entered ──
+before : {x s : ℕ} → x < s → (l : List ℕ) (v : ℕ) → getD (set l s v) x 0 ≡ getD l x 0
+before {x} {s} h l v = getD-set-other l s x v 0 (λ q. omega arith)
+
+module _ (m : Masks) (places : List ℕ) (s who met : ℕ) (t : Tables) (row right low high : ℕ)
+    (h : s < 4096) (n : Long t) (r : RowOf m places (t .left) (t .right) (t .users) met s row right)
+    (is-low : Column false row low) (is-high : Column true row high) (low-fits : low < 2 ^ 32) (high-fits : high < 2 ^ 32) where
+  abbrev pub after : Tables
+  after = tables (set (t .left) s (row / 2 ^ 1)) (set (t .right) s right) (set (t .users) s who) (set (t .met) s met) (set (set (t .workspace) s low) (4096 + s) high)
+
+  pub entered : Entered m places s who met t after
+  entered = record {
+    known = λ φ l u f a k g x b. entry φ l u f a k g x (eq-or-lt-of-le (le x b));
+    kept = record {
+      low = λ k a b. getD-set-other (set (t .workspace) s low) (4096 + s) k high 0 (λ q. omega arith) ∙ getD-set-other (t .workspace) s k low 0 (λ q. omega arith);
+      high = λ k a. getD-set-other (set (t .workspace) s low) (4096 + s) k high 0 (λ q. omega arith) ∙ getD-set-other (t .workspace) s k low 0 (λ q. omega arith);
+    };
+  }
+    where
+      le : (x : ℕ) → x < s + 1 → x ≤ s
+      le x b = omega arith
+
+      entry : (φ : Term) (l : List Action) → Suited φ m places → s < 2 ^ length l → Acting (select s l) who → Noted (select s l) met → Known φ l t s
+          → (x : ℕ) → (x ≡ s) ⊎ (x < s) → Entry φ l after x
+      entry φ l u f a k g x (inl q) = subst (Entry φ l after) (sym q) (record {
+        sides = rw (
+          getD-set-same (t .left) s (row / 2 ^ 1) 0 (omega (arith, n .left)),
+          getD-set-same (t .right) s right 0 (omega (arith, n .right)),
+          getD-set-same (t .users) s who 0 (omega (arith, n .users)),
+        )
+            (record {
+              lefts = λ e i b. let z : 1 + place e i ≡ place e (1 + i) = omega arith in bit-shr (place e i) 1 row ∙ ap (λ p. bit p row) z ∙ here .here e (1 + i) b;
+              rights = here .sided;
+              acting = a;
+            });
+        noted = rw (getD-set-same (t .met) s met 0 (omega (arith, n .met))) k;
+        satisfied = getD-set-other (set (t .workspace) s low) (4096 + s) s high 0 (λ z. omega arith) ∙ getD-set-same (t .workspace) s low 0 (omega (arith, n .workspace))
+            ∙ row-number false φ l s row right low (u .short) here is-low low-fits;
+        possible = getD-set-same (set (t .workspace) s low) (4096 + s) high 0 (omega (arith, n .workspace, length-set (t .workspace) s low))
+            ∙ row-number true φ l s row right high (u .short) here is-high high-fits;
+      })
+        where
+          here : RowIs φ (select s l) row right
+          here = r φ l u f (λ y b. g y b .sides) k
+      entry φ l u f a k g x (inr q) =
+          let b = g x q in
+          record {
+            sides = rw (before q (t .left) (row / 2 ^ 1), before q (t .right) right, before q (t .users) who) (b .sides);
+            noted = rw (before q (t .met) met) (b .noted);
+            satisfied = getD-set-other (set (t .workspace) s low) (4096 + s) x high 0 (λ z. omega arith) ∙ before q (t .workspace) low ∙ b .satisfied;
+            possible = getD-set-other (set (t .workspace) s low) (4096 + s) (4096 + x) high 0 (λ z. omega arith)
+                ∙ getD-set-other (t .workspace) s (4096 + x) low 0 (λ z. omega arith) ∙ b .possible;
+          }
+
+-- ── zeros ──
+pub cleared-none : (d : List ℕ) → Cleared 0 d d
+cleared-none d = record { zeros = λ k h. absurd (omega arith); stay = λ k h. refl }
+
+pub cleared-more : (n : ℕ) (d a : List ℕ) → n < length a → Cleared n d a → Cleared (n + 1) d (set a n 0)
+cleared-more n d a h c = record {
+  zeros = λ k l. by k (eq-or-lt-of-le (le k l));
+  stay = λ k l. getD-set-other a n k 0 0 (λ q. omega arith) ∙ c .stay k (omega arith);
+}
+  where
+    le : (k : ℕ) → k < n + 1 → k ≤ n
+    le k l = omega arith
+
+    by : (k : ℕ) → (k ≡ n) ⊎ (k < n) → getD (set a n 0) k 0 ≡ 0
+    by k (inl q) = ap (λ m. getD (set a n 0) m 0) q ∙ getD-set-same a n 0 0 h
+    by k (inr q) = getD-set-other a n k 0 0 (λ z. omega arith) ∙ c .zeros k q
+
+pub cleared-all : (n m : ℕ) (d a : List ℕ) → n ≤ m → m ≤ n → Cleared n d a → Cleared m d a
+cleared-all n m d a h k c = let q : n ≡ m = omega arith in subst (λ x. Cleared x d a) q c
+
+-- ── one action more ──
+kept-none : (n : ℕ) (l : List ℕ) → Kept n l l
+kept-none n l = record { low = λ k a b. refl; high = λ k a. refl }
+
+pub kept-more : {m n : ℕ} {a b c : List ℕ} → m ≤ n → Kept m a b → Kept n b c → Kept n a c
+kept-more h p q = record {
+  low = λ k l b. q .low k l b ∙ p .low k (omega arith) b;
+  high = λ k l. q .high k l ∙ p .high k (omega arith);
+}
+
+all-append : {A : Type 0} (f : A → Bool) (l m : List A) → all f (l ++ m) ≡ (all f l && all f m)
+all-append f [] m = refl
+all-append f (x ∷ l) m = ap (λ b. f x && b) (all-append f l m) ∙ sym (and-assoc (f x) (all f l) (all f m))
+
+eqb-swap : (m n : ℕ) → eqb m n ≡ eqb n m
+eqb-swap m n = same-test (eqb m n) (eqb n m) (λ e. eq-so n m (sym (so-eq m n e))) (λ e. eq-so m n (sym (so-eq n m e)))
+
+-- the tables keep their lengths
+pub record Same (t t′ : Tables) : Type 0 where
+  pub left : length (t′ .left) ≡ length (t .left)
+  pub right : length (t′ .right) ≡ length (t .right)
+  pub users : length (t′ .users) ≡ length (t .users)
+  pub met : length (t′ .met) ≡ length (t .met)
+  pub workspace : length (t′ .workspace) ≡ length (t .workspace)
+
+pub same-refl : (t : Tables) → Same t t
+same-refl t = record { left = refl; right = refl; users = refl; met = refl; workspace = refl }
+
+pub long-same : {t t′ : Tables} → Long t → Same t t′ → Long t′
+long-same n s = record {
+  left = s .left ∙ n .left;
+  right = s .right ∙ n .right;
+  users = s .users ∙ n .users;
+  met = s .met ∙ n .met;
+  workspace = omega (arith, n .workspace, s .workspace);
+}
+
+pub same-trans : {t t′ t″ : Tables} → Same t t′ → Same t′ t″ → Same t t″
+same-trans p q = record { left = q .left ∙ p .left; right = q .right ∙ p .right; users = q .users ∙ p .users; met = q .met ∙ p .met; workspace = q .workspace ∙ p .workspace }
+
+-- where the loop over the sets t of the actions before place j is
+pub record Adding (m : Masks) (places : List ℕ) (j : ℕ) (a : Action) (before after : Tables) (user top t : ℕ) : Type 0 where
+  pub is-user : user ≡ 2 ^ a .user
+  pub is-top : top ≡ 2 ^ j
+  pub bound : t ≤ top
+  pub lengths : Same before after
+  pub added : Added m places j a (top + t) before after
+
+module _ (m : Masks) (places : List ℕ) (j : ℕ) (a : Action) (T : Tables) (user top : ℕ) where
+  pub add-begin : user ≡ 2 ^ a .user → top ≡ 2 ^ j → Adding m places j a T T user top 0
+  add-begin p q = let z : 2 ^ j ≡ top + 0 = omega arith in record {
+    is-user = p;
+    is-top = q;
+    bound = omega arith;
+    lengths = same-refl T;
+    added = record { known = λ φ l u h e k. subst (Known φ l T) z k; kept = kept-none (top + 0) (T .workspace) };
+  }
+
+  module _ (t : ℕ) (T′ : Tables) (g : Adding m places j a T T′ user top t) (h : t < top) where
+    pub add-next : Next (top + t) t
+    add-next = record { last = j; is = ap (λ n. n + t) (g .is-top); below = subst (λ n. t < n) (g .is-top) h }
+
+    pub add-below : j < 12 → top + t < 4096
+    add-below b = omega (arith, g .is-top, pow-suc 2 j, pow-mono {i = suc j} {j = 12} b)
+
+    pub add-turn : (T″ : Tables) → Same T′ T″
+        → Entered m places (top + t) (bitOr (getD (T′ .users) t 0) user) (bitAnd (getD (T′ .met) t 0) (a .met)) T′ T″ → Adding m places j a T T″ user top (t + 1)
+    add-turn T″ s e = let z : top + t + 1 ≡ top + (t + 1) = omega arith in record {
+      is-user = g .is-user;
+      is-top = g .is-top;
+      bound = omega arith;
+      lengths = same-trans (g .lengths) s;
+      added = subst (λ n. Added m places j a n T T″) z (record {
+        known = known;
+        kept = kept-more (omega arith) (g .added .kept) (e .kept);
+      });
+    }
+      where
+        known : (φ : Term) (l : List Action) → Suited φ m places → j < length l → getD l j (record { user = 0; met = 0 }) ≡ a → Known φ l T (2 ^ j) → Known φ l T″ (top + t + 1)
+        known φ l u b d k = e .known φ l u fits acting noted before
+          where
+            before : Known φ l T′ (top + t)
+            before = g .added .known φ l u b d k
+
+            fits : top + t < 2 ^ length l
+            fits = omega (arith, g .is-top, pow-suc 2 j, pow-mono {i = suc j} {j = length l} b)
+
+            chosen : select (top + t) l ≡ select t l ++ (a ∷ [])
+            chosen = ap (λ n. select (n + t) l) (g .is-top) ∙ select-next l j t (record { user = 0; met = 0 }) b (subst (λ n. t < n) (g .is-top) h) ∙ ap (λ x. select t l ++ (x ∷ [])) d
+
+            acting : Acting (select (top + t) l) (bitOr (getD (T′ .users) t 0) user)
+            acting v =
+                bit-or v (getD (T′ .users) t 0) user
+                ∙ ap₂ _||_ (before t (omega arith) .sides .acting v) (ap (bit v) (g .is-user) ∙ bit-power v (a .user) ∙ eqb-swap v (a .user) ∙ sym (or-false (eqb (a .user) v)))
+                ∙ sym (ap (acts (λ x. x .user) v) chosen ∙ any-append (λ (x : Action). eqb (x .user) v) (select t l) (a ∷ []))
+
+            noted : Noted (select (top + t) l) (bitAnd (getD (T′ .met) t 0) (a .met))
+            noted i c =
+                bit-and i (getD (T′ .met) t 0) (a .met)
+                ∙ ap₂ _&&_ (before t (omega arith) .noted i c) (sym (and-true (bit i (a .met))))
+                ∙ sym (ap (all (λ x. bit i (x .met))) chosen ∙ all-append (λ (x : Action). bit i (x .met)) (select t l) (a ∷ []))
+
+  pub add-end : (t : ℕ) (T′ : Tables) → Adding m places j a T T′ user top t → top ≤ t → Added m places j a (2 ^ (j + 1)) T T′
+  add-end t T′ g l =
+      let s : j + 1 ≡ suc j = omega arith in
+      let e : top + t ≡ 2 ^ (j + 1) = omega (arith, g .is-top, g .bound, pow-suc 2 j, ap (λ n. 2 ^ n) s) in
+      subst (λ n. Added m places j a n T T′) e (g .added)
+
+-- ── all actions ──
+-- where the loop over the actions is
+pub record AddingAll (m : Masks) (places : List ℕ) (l : List Action) (taken : ℕ) (before after : Tables) (j : ℕ) : Type 0 where
+  pub bound : j ≤ taken
+  pub lengths : Same before after
+  pub added : AddedAll m places l (2 ^ j) before after
+
+module _ (m : Masks) (places : List ℕ) (l : List Action) (taken : ℕ) (T : Tables) where
+  pub all-begin : AddingAll m places l taken T T 0
+  all-begin = record { bound = omega arith; lengths = same-refl T; added = record { known = λ φ u k. k; kept = kept-none 1 (T .workspace) } }
+
+  pub all-turn : (T′ T″ : Tables) (j : ℕ) → AddingAll m places l taken T T′ j → j < taken → j < length l → Same T′ T″
+      → Added m places j (getD l j (record { user = 0; met = 0 })) (2 ^ (j + 1)) T′ T″ → AddingAll m places l taken T T″ (j + 1)
+  all-turn T′ T″ j f h b s a = record {
+    bound = omega arith;
+    lengths = same-trans (f .lengths) s;
+    added = record {
+      known = λ φ u k. a .known φ l u b refl (f .added .known φ u k);
+      kept = kept-more (pow-mono {j = j + 1} (omega arith)) (f .added .kept) (a .kept);
+    };
+  }
+
+  pub all-end : (T′ : Tables) (j : ℕ) → AddingAll m places l taken T T′ j → taken ≤ j → AddedAll m places l (2 ^ taken) T T′
+  all-end T′ j f h = let e : j ≡ taken = omega (arith, f .bound) in subst (λ n. AddedAll m places l (2 ^ n) T T′) e (f .added)

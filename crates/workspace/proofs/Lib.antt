@@ -1,0 +1,12 @@
+pub mod Digits
+pub mod Submask
+pub mod Select
+pub mod Walk
+pub mod Complete
+pub mod Standing
+pub mod Joint
+pub mod Rows
+pub mod Entries
+pub mod Columns
+pub mod Examples
+pub mod Fillable

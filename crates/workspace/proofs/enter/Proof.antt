@@ -1,0 +1,47 @@
+-- The row of s and what comes with it are added to the tables (`Entries`).
+use Prim.Native.Nat.{_<_, _^_}
+use native.Mathlib.Omega.{arith}
+use lib.ListN.{length-set}
+use borrow.Author.Needs.{needs}
+use Rattle.workspace.specs.Steps.{tables}
+use Rattle.workspace.proofs.Entries.{entered}
+use Rattle.workspace.proofs.enter.Statement.{statement}
+use Rattle.workspace.proofs.enter.Tie as tie
+
+returns : tie.Need-returns
+returns c =
+    let start = c .before .before .before .before .before .before .before .before .before .before .before .before .before in
+    let a = start .args in
+    let row = c .before .before .before .row-of in
+    let low : c .before .column .result < 2 ^ 32 = omega arith in
+    let high : c .column2 .result < 2 ^ 32 = omega arith in
+    entered (a .m) (a .places .now) (a .s) (a .who) (a .all) (tables (a .left .now) (a .right .now) (a .users .now) (a .met .now) (a .workspace .now))
+    (row .result .bits) (row .result .right) (c .before .column .result) (c .column2 .result) (start .pre .0) (start .pre .3) (row .ensures)
+    (c .before .column .ensures) (c .column2 .ensures) low high
+
+pub enter-spec : {M : Type 1} → statement M
+enter-spec =
+    tie.close
+    (tie.spec
+    (λ c κs. search needs)
+    (λ c. search needs)
+    (λ c. search needs)
+    (λ c. search needs)
+    (λ c. search needs)
+    (λ c. search needs)
+    (λ c. search needs)
+    (λ c. search needs)
+    (λ c. search needs)
+    (λ c κs. search needs)
+    (λ c. search needs)
+    (λ c. search needs)
+    (λ c κs. search needs)
+    (λ c. search needs)
+    (λ c. search needs)
+    (λ c. simp length-set (omega arith))
+    (λ c. search needs)
+    (λ c. search needs)
+    (λ c. search needs)
+    (λ c. search needs)
+    (λ c. search needs)
+    returns)

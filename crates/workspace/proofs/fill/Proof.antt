@@ -1,0 +1,49 @@
+-- Each test that fails leaves the workspace as it was, as `fillOf` does; behind the last the words are a term, and its shape is filled by.
+use mathlib.Core.Path.{sym, _∙_, ap}
+use mathlib.Core.Bool.{So}
+use lib.ListN.{take}
+use borrow.Author.Needs.{needs}
+use borrow.Author.Tests.{not-true, not-false}
+use Rattle.workspace.specs.Steps.{Shaped}
+use Rattle.workspace.proofs.Fillable.{users-ok, Readable, readable, is-shaped, too-many, unknown-user, too-short, no-policy, is-filled}
+use Rattle.workspace.proofs.fill.Statement.{statement}
+use Rattle.workspace.proofs.fill.Tie as tie
+
+returns-2 : tie.Need-returns-2
+returns-2 c = unknown-user _ _ _ _ (sym (c .before .users-ok .ensures) ∙ not-true (c .before .users-ok .result) (c .if2 .taken))
+
+returns-4 : tie.Need-returns-4
+returns-4 c = no-policy _ _ _ _ (sym (ap (λ p. p .words) (c .before .before .shape-of .ensures)) ∙ c .if4 .taken)
+
+-- what is known behind the tests
+known-users : (c : tie.Else2) → let a = c .before .before .before .before .before .args in So (users-ok (take (a .taken) (a .actions)))
+known-users c = sym (c .before .users-ok .ensures) ∙ not-false (c .before .users-ok .result) (c .if2 .left)
+
+read : (c : tie.Else4) → Readable (c .before .before .before .before .before .before .before .before .before .args .words .now)
+read c = readable (c .before .before .before .before .before .before .before .before .before .args .words .now) (λ z. c .if4 .left (ap (λ p. p .words) (c .before .before .shape-of .ensures) ∙ z))
+
+shaped : (c : tie.Else4) → Shaped (c .before .before .shape-of .result)
+shaped c = is-shaped (read c) (c .before .before .shape-of .ensures) (search needs)
+
+fill-by-requires : tie.Need-fill-by-requires
+fill-by-requires c κs = (shaped (c .before), search needs, known-users (c .before .before .before .before .before), search needs)
+
+returns-5 : tie.Need-returns-5
+unfolding shaped is-shaped
+returns-5 c =
+    let at = c .before .before .before .before in
+    c .before .before .fill-by .ensures (shaped at) ∙ is-filled _ _ _ _ (read at) (search needs) (known-users (at .before .before .before .before)) (search needs)
+
+pub fill-spec : {M : Type 1} → statement M
+fill-spec =
+    tie.close
+    (tie.spec
+    (λ c. too-many _ _ _ _ (c .if1 .taken))
+    (λ c κs. search needs)
+    returns-2
+    (λ c. too-short _ _ _ _ (c .if3 .taken))
+    (λ c κs. search needs)
+    returns-4
+    fill-by-requires
+    (λ c. search needs)
+    returns-5)

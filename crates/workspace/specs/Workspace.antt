@@ -1,0 +1,55 @@
+-- The workspace (document 01: work room): for each set of actions, which terms of the policy it satisfies and which are possible.
+use mathlib.Core.Bool.{Bool, true, false, not, _&&_, cond}
+use mathlib.Core.List.{List, [], _∷_, _++_, map}
+use mathlib.Core.Option.{Option, some, none}
+use Prim.Native.Nat.{ℕ, zero, suc, _-_, _/_, _^_}
+use lib.Dec.{leb, ltb}
+use lib.ListN.{length, take, drop, replicate}
+use Rattle.soda.specs.Bits.{bit, number}
+use Rattle.soda.specs.Lists.{all}
+use Rattle.soda.specs.Terms.{Term, wellFormed, size, termAt}
+use Rattle.soda.specs.Tables.{bitTable}
+pub use Rattle.policy.specs.Words.{termOf}
+use Rattle.policy.specs.Words.{decode}
+use Rattle.policy.specs.Reading.{lengthOk}
+use Rattle.workspace.specs.declared.Action.{Action}
+
+-- the n numbers from i on
+abbrev pub range : ℕ → ℕ → List ℕ
+range i zero = []
+range i (suc n) = i ∷ range (suc i) n
+
+-- the actions of the set with mask s: bit j for the one at place j, from 0
+abbrev pub select {ℓ} : {A : Type ℓ} → ℕ → List A → List A
+select s [] = []
+select s (a ∷ l) = cond (bit 0 s) (a ∷ select (s / 2) l) (select (s / 2) l)
+
+-- whether a set of actions satisfies the term at word i of the policy φ (e is false), or is possible for it (e is true)
+unfoldable pub judged : Bool → Term → List Action → ℕ → Bool
+judged e φ s i = bitTable (λ a. a .user) (λ a. a .met) e (termAt φ i) i s
+
+-- one word of the workspace: bit i for the term at word i; bits past the policy are zero
+unfoldable pub rowOf : Bool → Term → List Action → ℕ → ℕ
+rowOf e φ l s = number (map (judged e φ (select s l)) (range 0 (size φ)))
+
+-- word s for s below 2^n, for n actions; zeros up to 4,096 words
+unfoldable pub column : Bool → Term → List Action → List ℕ
+column e φ l = map (rowOf e φ l) (range 0 (2 ^ length l)) ++ replicate (4096 - 2 ^ length l) 0
+
+-- the 8,192 words: satisfied, then possible from word 4,096 on
+unfoldable pub tableOf : Term → List Action → List ℕ
+tableOf φ l = column false φ l ++ column true φ l
+
+-- words from 8,192 on keep what they had
+unfoldable pub filled : Term → List Action → List ℕ → List ℕ
+filled φ l room = tableOf φ l ++ drop 8192 room
+
+-- The fill is a helper that crates share, so it is total: it fills for words that are a well-formed term, at most twelve actions
+-- by users below 16, and a workspace long enough; else it leaves the workspace as it was.
+abbrev pub isFillable : Option Term → List Action → List ℕ → Bool
+isFillable none l room = false
+isFillable (some φ) l room = wellFormed φ && (all (λ a. ltb (a .user) 16) l && leb 8192 (length room))
+
+unfoldable pub fillOf : List ℕ → List Action → ℕ → List ℕ → List ℕ
+fillOf words actions n room =
+    cond (lengthOk (length words) && (leb n 12 && isFillable (decode words) (take n actions) room)) (filled (termOf (decode words)) (take n actions) room) room
