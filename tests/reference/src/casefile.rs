@@ -1,0 +1,219 @@
+//! Case files and what the judge program prints (01, "Case file and program").
+
+use crate::code::{self, Code};
+use crate::monitor::Instance;
+
+/// The most bytes that a case file may have.
+pub const MOST_BYTES: usize = 4096;
+/// The most bytes that the events of a case file may have.
+pub const MOST_EVENT_BYTES: usize = 1024;
+
+/// A case: what one case file says, not yet judged by the opening.
+#[derive(Clone, Debug, PartialEq, Eq)]
+pub struct Case {
+    /// The number of users.
+    pub users: u8,
+    /// The number of roles.
+    pub roles: u8,
+    /// The policy words.
+    pub policy: Vec<u32>,
+    /// The rows of roles, bit r for role r.
+    pub user_roles: Vec<u16>,
+    /// The event words.
+    pub events: Vec<u32>,
+}
+
+/// The bytes of the three parts.
+struct Parts<'a> {
+    policy: &'a [u8],
+    user_roles: &'a [u8],
+    events: &'a [u8],
+}
+
+/// The number of 16 bits at this place, low byte first.
+fn number(bytes: &[u8], place: usize) -> usize {
+    usize::from(bytes[place]) + 256 * usize::from(bytes[place + 1])
+}
+
+/// Takes the three parts out of a file, if its size and its pairs are as they should be.
+fn parts(bytes: &[u8]) -> Option<Parts<'_>> {
+    if bytes.len() < 12 || bytes.len() > MOST_BYTES {
+        return None;
+    }
+    let mut found = Vec::new();
+    let mut end = 12;
+    for pair in 0..3 {
+        let offset = number(bytes, 4 * pair);
+        let length = number(bytes, 4 * pair + 2);
+        if offset != end {
+            return None;
+        }
+        end = offset + length;
+        found.push(bytes.get(offset..end)?);
+    }
+    let whole = end == bytes.len();
+    whole.then_some(Parts { policy: found[0], user_roles: found[1], events: found[2] })
+}
+
+/// Whether the lengths of the parts are as they should be.
+fn lengths_fit(parts: &Parts) -> bool {
+    parts.policy.len().is_multiple_of(4)
+        && parts.events.len().is_multiple_of(4)
+        && parts.events.len() <= MOST_EVENT_BYTES
+        && parts.user_roles.len() >= 2
+        && parts.user_roles.len().is_multiple_of(2)
+}
+
+/// The words of four bytes each, low byte first.
+fn words(bytes: &[u8]) -> Vec<u32> {
+    let word =
+        |chunk: &[u8]| chunk.iter().rev().fold(0, |word, byte| word * 256 + u32::from(*byte));
+    bytes.chunks_exact(4).map(word).collect()
+}
+
+/// Reads a case file.
+///
+/// # Errors
+/// 14 if it is malformed.
+pub fn read_case(bytes: &[u8]) -> Result<Case, Code> {
+    let parts = parts(bytes).filter(lengths_fit).ok_or(code::CASE_MALFORMED)?;
+    let rows = parts.user_roles[2..].chunks_exact(2);
+    Ok(Case {
+        users: parts.user_roles[0],
+        roles: parts.user_roles[1],
+        policy: words(parts.policy),
+        user_roles: rows.map(|row| u16::from(row[0]) + 256 * u16::from(row[1])).collect(),
+        events: words(parts.events),
+    })
+}
+
+/// The bytes of a case file; a part that is too long for its pair makes a file of no use.
+pub fn write_case(case: &Case) -> Vec<u8> {
+    let policy: Vec<u8> = case.policy.iter().flat_map(|word| word.to_le_bytes()).collect();
+    let mut user_roles = vec![case.users, case.roles];
+    user_roles.extend(case.user_roles.iter().flat_map(|row| row.to_le_bytes()));
+    let events: Vec<u8> = case.events.iter().flat_map(|word| word.to_le_bytes()).collect();
+    join_parts(&policy, &user_roles, &events)
+}
+
+/// The bytes of a case file with these parts, whatever they hold.
+pub fn join_parts(policy: &[u8], user_roles: &[u8], events: &[u8]) -> Vec<u8> {
+    let mut bytes = Vec::new();
+    let mut offset = 12;
+    for part in [policy, user_roles, events] {
+        bytes.extend((offset as u16).to_le_bytes());
+        bytes.extend((part.len() as u16).to_le_bytes());
+        offset += part.len();
+    }
+    bytes.extend([policy, user_roles, events].concat());
+    bytes
+}
+
+/// What a case came to: for each event its number and the status after it, and the number of
+/// actions that were answered 0.
+#[derive(Clone, Debug, PartialEq, Eq)]
+pub struct Report {
+    /// The number and the status letter for each event.
+    pub answers: Vec<(Code, char)>,
+    /// The actions answered 0.
+    pub taken: usize,
+}
+
+impl Report {
+    /// The lines that the judge prints.
+    pub fn text(&self) -> String {
+        let mut text = String::new();
+        for (place, (code, letter)) in self.answers.iter().enumerate() {
+            text += &format!("{} {code} {letter}\n", place + 1);
+        }
+        text + &format!("taken {}\n", self.taken)
+    }
+}
+
+/// Runs a case from its opening through all its events.
+///
+/// # Errors
+/// The number of a refused opening.
+pub fn run(case: &Case) -> Result<Report, Code> {
+    let (users, roles) = (usize::from(case.users), usize::from(case.roles));
+    let mut instance = Instance::open(users, roles, &case.policy, &case.user_roles)?;
+    let mut report = Report { answers: Vec::new(), taken: 0 };
+    for word in &case.events {
+        let code = instance.step(*word).code;
+        if code == code::ACCEPTED && word >> 24 == 1 {
+            report.taken += 1;
+        }
+        report.answers.push((code, instance.letter()));
+    }
+    assert_eq!(report.taken, instance.taken().len(), "each action answered 0 is kept");
+    Ok(report)
+}
+
+/// Exactly what the judge program prints for a case file.
+pub fn judge(bytes: &[u8]) -> String {
+    match read_case(bytes).and_then(|case| run(&case)) {
+        Ok(report) => report.text(),
+        Err(refusal) => format!("refused {refusal}\n"),
+    }
+}
+
+#[cfg(test)]
+mod tests {
+    use super::*;
+    use crate::examples::LISTING_L;
+
+    #[test]
+    fn sizes_and_pairs_are_14() {
+        for length in [0, 1, 11, 12, 95] {
+            assert_eq!(judge(&LISTING_L[..length]), "refused 14\n", "{length} bytes");
+        }
+        for place in 0..12 {
+            let mut bytes = LISTING_L;
+            bytes[place] ^= 4;
+            assert_eq!(judge(&bytes), "refused 14\n", "byte {place}");
+        }
+        assert_eq!(judge(&[&LISTING_L[..], &[0]].concat()), "refused 14\n");
+    }
+
+    #[test]
+    fn wrong_part_lengths_are_14_before_all_else() {
+        let word = [0, 0, 0, 1];
+        let files = [
+            join_parts(&[], &[], &[]),
+            join_parts(&word, &[1], &[]),
+            join_parts(&word, &[1, 1, 1], &[]),
+            join_parts(&word[..3], &[0, 0], &[]),
+            join_parts(&word, &[0, 0], &word[..2]),
+            join_parts(&word, &[0, 0], &[0; 1028]),
+        ];
+        for bytes in files {
+            assert_eq!(judge(&bytes), "refused 14\n");
+        }
+    }
+
+    #[test]
+    fn empty_parts_are_fine() {
+        assert_eq!(judge(&join_parts(&[], &[1, 1, 1, 0], &[])), "refused 1\n");
+        assert_eq!(judge(&join_parts(&[], &[0, 1], &[])), "refused 5\n");
+        assert_eq!(judge(&join_parts(&[0, 0, 0, 1], &[1, 1], &[])), "refused 6\n");
+        assert_eq!(judge(&join_parts(&[0, 0, 0, 1], &[1, 1, 1, 0], &[])), "taken 0\n");
+    }
+
+    #[test]
+    fn large_files() {
+        let policy = join_parts(&[1; 4080], &[1, 1, 1, 0], &[]);
+        assert_eq!((policy.len(), judge(&policy)), (4096, "refused 1\n".to_string()));
+        let rows = join_parts(&[0, 0, 0, 1], &[1; 4080], &[]);
+        assert_eq!((rows.len(), judge(&rows)), (4096, "refused 6\n".to_string()));
+        let longer = join_parts(&[0, 0, 0, 1], &[1; 4082], &[]);
+        assert_eq!((longer.len(), judge(&longer)), (4098, "refused 14\n".to_string()));
+    }
+
+    #[test]
+    fn events_up_to_1024_bytes_are_run() {
+        let bytes = join_parts(&[0, 0, 0, 1], &[1, 1, 1, 0], &[0; 1024]);
+        let text = judge(&bytes);
+        assert_eq!(text.lines().count(), 257);
+        assert!(text.starts_with("1 7 o\n") && text.ends_with("256 7 o\ntaken 0\n"));
+    }
+}

@@ -1,0 +1,38 @@
+//! The numbers with which the calls answer (01, "Numbers, by who causes them").
+
+/// The number that a call answers with; 0 is acceptance.
+pub type Code = u32;
+
+/// The call was accepted.
+pub const ACCEPTED: Code = 0;
+/// No policy word, or more than 31.
+pub const POLICY_LENGTH: Code = 1;
+/// Some policy word is out of layout, names an undeclared role or user, or is an empty set.
+pub const POLICY_WORD: Code = 2;
+/// The policy words are not exactly one term.
+pub const NOT_ONE_TERM: Code = 3;
+/// A not or a plus stands over a term that is no unit term.
+pub const NOT_OVER_UNIT: Code = 4;
+/// The users or the roles are not 1 to 16.
+pub const COUNTS: Code = 5;
+/// The rows of roles are not one a user, or name an undeclared role.
+pub const USER_ROLES: Code = 6;
+/// An event word is out of layout or names an undeclared user or role; in a multiset, a count
+/// above 0 for an undeclared user.
+pub const EVENT_WORD: Code = 7;
+/// Twelve actions are taken already; in a multiset, more than twelve in all.
+pub const TOO_MANY_ACTIONS: Code = 8;
+/// The actions with the new one are not possible.
+pub const NOT_POSSIBLE: Code = 9;
+/// The instance is closed.
+pub const CLOSED: Code = 10;
+/// A close, but the taken actions do not satisfy the policy.
+pub const NOT_SATISFIED: Code = 11;
+/// The workspace has fewer than 8,192 words.
+pub const WORKSPACE_SHORT: Code = 12;
+/// The output is shorter than the policy.
+pub const OUTPUT_SHORT: Code = 13;
+/// The case file is malformed.
+pub const CASE_MALFORMED: Code = 14;
+/// The instance is malformed.
+pub const INSTANCE_MALFORMED: Code = 15;

@@ -1,0 +1,222 @@
+//! 01's listing L, its twelve settled examples and its four tempting mistakes, as checks.
+
+use crate::casefile::{judge, read_case, run, Case};
+use crate::monitor::{multiset, Instance};
+use crate::policy::{normal_form, read_policy, Operator, Term};
+use crate::workspace;
+
+/// A check with a name and whether it passed.
+pub type Check = (&'static str, bool);
+
+/// Policy F, Example 3 of document 004.
+pub const POLICY_F: [u32; 10] = [
+    0x08000000, 0x09000000, 0x02000000, 0x06000000, 0x02000002, 0x09000000, 0x02000000, 0x02000000,
+    0x05000000, 0x01000000,
+];
+
+/// Listing L, byte for byte.
+#[rustfmt::skip]
+pub const LISTING_L: [u8; 96] = [
+    12, 0, 40, 0, 52, 0, 8, 0, 60, 0, 36, 0,
+    0, 0, 0, 8, 0, 0, 0, 9, 0, 0, 0, 2, 0, 0, 0, 6, 2, 0, 0, 2,
+    0, 0, 0, 9, 0, 0, 0, 2, 0, 0, 0, 2, 0, 0, 0, 5, 0, 0, 0, 1,
+    3, 3, 2, 0, 1, 0, 0, 0,
+    1, 0, 0, 1, 2, 1, 0, 1, 2, 1, 0, 2, 2, 2, 0, 2, 0, 0, 0, 4,
+    3, 2, 0, 1, 4, 0, 0, 1, 0, 0, 0, 4, 4, 0, 0, 1,
+];
+
+/// What the judge prints for listing L.
+pub const LISTING_L_OUTPUT: &str =
+    "1 0 o\n2 0 o\n3 0 o\n4 0 o\n5 11 o\n6 0 c\n7 0 c\n8 0 d\n9 10 d\ntaken 4\n";
+
+/// The word of an action by this user.
+pub fn action(user: u32) -> u32 {
+    1 << 24 | user << 8
+}
+
+/// The word that gives a user a role.
+pub fn grant(user: u32, role: u32) -> u32 {
+    2 << 24 | user << 8 | role
+}
+
+/// The word that takes a role from a user.
+pub fn revoke(user: u32, role: u32) -> u32 {
+    3 << 24 | user << 8 | role
+}
+
+/// The word of a close.
+pub const CLOSE: u32 = 4 << 24;
+
+/// Runs a policy with these users' roles; for each event its number and the status after it.
+fn answers(roles: u8, term: &Term, user_roles: &[u16], events: &[u32]) -> Vec<(u32, char)> {
+    let case = Case {
+        users: user_roles.len() as u8,
+        roles,
+        policy: term.words(),
+        user_roles: user_roles.to_vec(),
+        events: events.to_vec(),
+    };
+    run(&case).map(|report| report.answers).unwrap_or_default()
+}
+
+/// The numbers alone.
+fn codes(answers: &[(u32, char)]) -> Vec<u32> {
+    answers.iter().map(|(code, _)| *code).collect()
+}
+
+/// Policy F as a term.
+fn policy_f() -> Term {
+    crate::policy::read_term(3, 3, &POLICY_F).expect("policy F is accepted")
+}
+
+/// The multiset test with policy F and grants 2, 5, 4.
+fn multiset_f(counts: [u8; 3]) -> Result<bool, u32> {
+    let mut all = [0; 16];
+    all[..3].copy_from_slice(&counts);
+    multiset(3, 3, &POLICY_F, &[2, 5, 4], &all, &mut vec![0; workspace::WORDS])
+}
+
+/// P1 to P5.
+fn settled_on_f() -> Vec<Check> {
+    let case = read_case(&LISTING_L).expect("listing L is well formed");
+    let report = run(&case).expect("listing L opens");
+    let expected: Vec<u32> = vec![0, 0, 0, 0, 11, 0, 0, 0, 10];
+    let letters: String = report.answers.iter().map(|(_, letter)| *letter).collect();
+    let p1 = codes(&report.answers) == expected && letters == "oooooccdd" && report.taken == 4;
+    vec![
+        ("P1", p1),
+        ("P2", multiset_f([2, 1, 1]) == Ok(true)),
+        ("P3", multiset_f([1, 0, 1]) == Ok(false)),
+        ("P4", multiset_f([1, 1, 0]) == Ok(false)),
+        ("P5", answers(3, &policy_f(), &[2, 1, 0], &[action(2)])[0].0 == 9),
+    ]
+}
+
+/// P6 and P7: the numbers when this user makes the first action.
+fn manager_then_not(first: u32) -> Vec<u32> {
+    let manager = Term::Role(2);
+    let term = Term::join(Operator::Together, manager.clone(), Term::not(manager));
+    let events = [grant(1, 2), action(first), revoke(1, 2), action(1), CLOSE];
+    codes(&answers(3, &term, &[0, 0, 0], &events))
+}
+
+/// P8: the statuses after each of four actions by user 1.
+fn three_or_more() -> String {
+    let s = Term::set(&[1]);
+    let inner = Term::join(Operator::Together, s.clone(), Term::plus(s.clone()));
+    let term = Term::join(Operator::Together, s, inner);
+    let answers = answers(1, &term, &[0, 1], &[action(1); 4]);
+    answers.iter().map(|(code, letter)| if *code == 0 { *letter } else { 'x' }).collect()
+}
+
+/// P9: the numbers of two actions by the one user.
+fn one_user_apart() -> Vec<u32> {
+    let term = Term::join(Operator::Apart, Term::Role(0), Term::Role(0));
+    codes(&answers(1, &term, &[1], &[action(0), action(0)]))
+}
+
+/// P10 to P12.
+fn settled_on_words() -> Vec<Check> {
+    let begins = [0x08000000, 0x05000000, 0x01000000, 0x09000000, 0x02000000, 0x06000000];
+    let mut output = [0; 10];
+    let p10 = normal_form(3, 3, &POLICY_F, &mut output) == 0 && output[..6] == begins;
+    let both = Term::join(Operator::Both, Term::Everyone, Term::Everyone).words();
+    let mut same = vec![0; 3];
+    let p11 = normal_form(1, 1, &both, &mut same) == 0 && same == both;
+    let plus = [0x05000000, 0x08000000, 0x01000000, 0x01000000];
+    vec![("P10", p10), ("P11", p11), ("P12", read_policy(1, 1, &plus) == Err(4))]
+}
+
+/// The twelve settled examples, and listing L with its printing.
+pub fn settled() -> Vec<Check> {
+    let mut checks = settled_on_f();
+    let p7 = manager_then_not(0);
+    checks.extend([
+        ("P6", manager_then_not(1) == [0, 0, 0, 0, 0]),
+        ("P7", p7[..4] == [0, 0, 0, 9]),
+        ("P8", three_or_more()[1..] == *"occ"),
+        ("P9", one_user_apart() == [0, 9]),
+    ]);
+    checks.extend(settled_on_words());
+    checks.push(("listing L", judge(&LISTING_L) == LISTING_L_OUTPUT));
+    checks
+}
+
+/// Greedy giving: a user who holds roles 0 and 1, then one who holds only role 0.
+fn not_greedy(operator: Operator) -> bool {
+    let term = Term::join(operator, Term::Role(0), Term::Role(1));
+    let answers = answers(2, &term, &[3, 1], &[action(0), action(1)]);
+    answers == [(0, 'o'), (0, 'c')]
+}
+
+/// "Possible" is not "can still be met": user 0 is taken, and nothing can follow.
+fn dead_end_is_taken() -> bool {
+    let alone = |user| Term::set(&[user]);
+    let with = |user| Term::join(Operator::Together, alone(0), alone(user));
+    let term = Term::join(Operator::Both, with(1), with(2));
+    let opened = Instance::open(3, 1, &term.words(), &[1, 1, 1]);
+    let Ok(mut instance) = opened else {
+        return false;
+    };
+    let taken = instance.step(action(0)).code == 0 && instance.letter() == 'o';
+    taken && (0..3).all(|user| instance.step(action(user)).code == 9)
+}
+
+/// The four mistakes that tempt.
+pub fn mistakes() -> Vec<Check> {
+    vec![
+        ("old actions by today's grants", manager_then_not(1) == [0, 0, 0, 0, 0]),
+        ("greedy giving", not_greedy(Operator::Together)),
+        ("greedy giving, apart", not_greedy(Operator::Apart)),
+        ("apart compares places", one_user_apart() == [0, 9]),
+        ("possible taken for can still be met", dead_end_is_taken()),
+    ]
+}
+
+#[cfg(test)]
+mod tests {
+    use super::*;
+
+    #[test]
+    fn settled_examples_hold() {
+        let failed: Vec<_> = settled().into_iter().filter(|(_, passed)| !passed).collect();
+        assert_eq!(failed, []);
+        assert_eq!(settled().len(), 13);
+    }
+
+    #[test]
+    fn tempting_mistakes_are_not_made() {
+        let failed: Vec<_> = mistakes().into_iter().filter(|(_, passed)| !passed).collect();
+        assert_eq!(failed, []);
+    }
+
+    #[test]
+    fn listing_l_is_as_written() {
+        assert_eq!(LISTING_L.len(), 96);
+        let case = Case {
+            users: 3,
+            roles: 3,
+            policy: POLICY_F.to_vec(),
+            user_roles: vec![2, 1, 0],
+            events: vec![
+                0x01000001, 0x01000102, 0x02000102, 0x02000202, 0x04000000, 0x01000203, 0x01000004,
+                0x04000000, 0x01000004,
+            ],
+        };
+        assert_eq!(crate::casefile::write_case(&case), LISTING_L);
+        assert_eq!(read_case(&LISTING_L), Ok(case));
+        assert_eq!(LISTING_L_OUTPUT.lines().count(), 10);
+        assert_eq!(judge(&LISTING_L), LISTING_L_OUTPUT);
+    }
+
+    #[test]
+    fn normal_form_of_f_is_whole() {
+        let mut output = [7; 12];
+        assert_eq!(normal_form(3, 3, &POLICY_F, &mut output), 0);
+        let expected = [
+            0x08000000, 0x05000000, 0x01000000, 0x09000000, 0x02000000, 0x06000000, 0x02000002,
+            0x09000000, 0x02000000, 0x02000000, 7, 7,
+        ];
+        assert_eq!(output, expected);
+    }
+}

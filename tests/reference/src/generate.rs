@@ -1,0 +1,117 @@
+//! Inputs for comparisons, made from a seed: the same seed always gives the same inputs.
+//!
+//! - [`terms`]: random terms, also ones that lean on together and apart, and equal forms;
+//! - [`cases`]: random cases and damaged case files;
+//! - [`edges`]: case files at the edges of what 01 allows, and for every refusal;
+//! - [`instances`]: raw instances, well formed and malformed in each way that number 15 lists;
+//! - [`calls`]: inputs for single calls, with outputs and workspaces of every length.
+
+pub mod calls;
+pub mod cases;
+pub mod edges;
+pub mod instances;
+pub mod random;
+pub mod terms;
+
+pub use random::Random;
+
+/// A case file with a name that says what it tries.
+pub type NamedFile = (String, Vec<u8>);
+
+/// The first so many case files for a seed: every edge first, then random ones of each kind in
+/// turn.
+pub fn case_files(seed: u64, count: usize) -> Vec<NamedFile> {
+    let mut files = edges::all();
+    let mut random = Random::new(seed);
+    let mut turn = 0;
+    while files.len() < count {
+        files.push(cases::random_file(&mut random, turn));
+        turn += 1;
+    }
+    files.truncate(count);
+    files
+}
+
+#[cfg(test)]
+mod tests {
+    use super::*;
+    use crate::casefile::judge;
+    use crate::policy::{read_term, Operator};
+    use std::collections::BTreeSet;
+
+    #[test]
+    fn the_same_seed_gives_the_same_files() {
+        assert_eq!(case_files(3, 900), case_files(3, 900));
+        assert_ne!(case_files(3, 900), case_files(4, 900));
+        assert_eq!(case_files(3, 5).len(), 5);
+    }
+
+    #[test]
+    fn edges_have_different_names() {
+        let names: BTreeSet<String> = edges::all().into_iter().map(|(name, _)| name).collect();
+        assert_eq!(names.len(), edges::all().len());
+    }
+
+    #[test]
+    fn edges_bring_about_every_number_that_a_case_file_can() {
+        let texts: Vec<String> = edges::all().iter().map(|(_, bytes)| judge(bytes)).collect();
+        for refusal in [1, 2, 3, 4, 5, 6, 14] {
+            let wanted = format!("refused {refusal}\n");
+            assert!(texts.contains(&wanted), "{wanted}");
+        }
+        for answer in ["0", "7", "8", "9", "10", "11"] {
+            let has =
+                |text: &String| text.lines().any(|line| line.split(' ').nth(1) == Some(answer));
+            assert!(texts.iter().any(|text| !text.starts_with("refused") && has(text)), "{answer}");
+        }
+    }
+
+    #[test]
+    fn named_orders_come_out_as_named() {
+        for (name, bytes) in edges::all() {
+            let Some((first, _)) = name.split_once(" before ") else {
+                continue;
+            };
+            let text = judge(&bytes);
+            let expected = format!("refused {first}\n");
+            let event = format!(" {first} ");
+            assert!(text == expected || text.contains(&event), "{name}: {text}");
+        }
+    }
+
+    #[test]
+    fn equal_forms_have_one_normal_form() {
+        let mut random = Random::new(11);
+        for turn in 0..2000 {
+            let style = terms::Style { users: 3, roles: 3, lean: 60 };
+            let words = random.between(1, 31);
+            let term = match turn % 2 {
+                0 => terms::term(&mut random, style, words),
+                _ => terms::chain(&mut random, style, Operator::Apart, words.div_ceil(2)),
+            };
+            assert_eq!(read_term(3, 3, &term.words()), Ok(term.clone()));
+            let equal = terms::equal_form(&mut random, &term, 40);
+            assert_eq!(equal.length(), term.length());
+            assert_eq!(equal.normal(), term.normal());
+        }
+    }
+
+    #[test]
+    fn calls_bring_about_their_numbers() {
+        let mut random = Random::new(12);
+        let mut seen = BTreeSet::new();
+        let mut policies: Vec<calls::PolicyInput> =
+            calls::policy_edges().into_iter().map(|(_, input)| input).collect();
+        policies.extend((0..400).map(|_| calls::policy_input(&mut random)));
+        for input in policies {
+            let mut output = calls::marked(input.output);
+            let words = &input.words;
+            seen.insert(crate::policy::normal_form(input.users, input.roles, words, &mut output));
+        }
+        for (_, input) in calls::event_edges(&mut random) {
+            let mut instance = input.instance;
+            seen.insert(instance.event(input.word, &mut calls::marked(input.workspace)));
+        }
+        assert_eq!(seen, BTreeSet::from([0, 1, 2, 3, 4, 5, 7, 8, 9, 10, 11, 12, 13, 15]));
+    }
+}

@@ -1,0 +1,221 @@
+//! Inputs for single calls: reading, normal form, events and statuses on raw instances, and the
+//! multiset test, with outputs and workspaces of every length of interest.
+
+use super::cases::{self, event, user_roles};
+use super::terms::{self, Style};
+use super::Random;
+use super::{edges, instances};
+use crate::casefile::{read_case, Case};
+use crate::examples::{action, grant, CLOSE, POLICY_F};
+use crate::policy::Term;
+use crate::raw::RawInstance;
+
+/// The lengths of workspaces worth trying.
+pub const WORKSPACE_LENGTHS: [usize; 6] = [8192, 8191, 8193, 8200, 0, 1];
+
+/// A workspace or output of this length whose words all differ, to see what was written.
+pub fn marked(length: usize) -> Vec<u32> {
+    (0..length).map(|place| 0xa5000000 ^ place as u32).collect()
+}
+
+/// A length of a workspace: 8,192 in most cases.
+fn workspace_length(random: &mut Random) -> usize {
+    if random.percent(85) {
+        8192
+    } else {
+        random.pick(&WORKSPACE_LENGTHS)
+    }
+}
+
+/// Input for reading a policy and for its normal form.
+#[derive(Clone, Debug, PartialEq, Eq)]
+pub struct PolicyInput {
+    /// The number of users.
+    pub users: usize,
+    /// The number of roles.
+    pub roles: usize,
+    /// The policy words.
+    pub words: Vec<u32>,
+    /// The length of the output.
+    pub output: usize,
+}
+
+/// A random input for reading and normal form; about half are accepted.
+pub fn policy_input(random: &mut Random) -> PolicyInput {
+    let case: Case = match random.below(4) {
+        0 => cases::misworded(random),
+        1 => cases::case(random, 16, 16, 50),
+        2 => cases::case(random, 3, 3, 50),
+        _ => {
+            let base = cases::case(random, 3, 2, 80);
+            cases::equal_case(random, &base)
+        }
+    };
+    let length = case.policy.len();
+    let output = match random.below(4) {
+        0 => length,
+        1 => length + random.below(4),
+        2 => random.below(length + 1),
+        _ => 31,
+    };
+    PolicyInput { users: case.users.into(), roles: case.roles.into(), words: case.policy, output }
+}
+
+/// The policies of all edge cases, each with outputs that are too short, long enough and longer.
+pub fn policy_edges() -> Vec<(String, PolicyInput)> {
+    let mut found = Vec::new();
+    for (name, bytes) in edges::all() {
+        let Ok(case) = read_case(&bytes) else {
+            continue;
+        };
+        let length = case.policy.len();
+        for output in [0, length.saturating_sub(1), length, length + 3] {
+            let (users, roles) = (case.users.into(), case.roles.into());
+            let input = PolicyInput { users, roles, words: case.policy.clone(), output };
+            found.push((format!("{name}, output of {output}"), input));
+        }
+    }
+    found
+}
+
+/// Input for the multiset test.
+#[derive(Clone, Debug, PartialEq, Eq)]
+pub struct MultisetInput {
+    /// The number of users.
+    pub users: usize,
+    /// The number of roles.
+    pub roles: usize,
+    /// The policy words.
+    pub words: Vec<u32>,
+    /// The rows of roles.
+    pub user_roles: Vec<u16>,
+    /// How many actions each user makes.
+    pub counts: [u8; 16],
+    /// The length of the workspace.
+    pub workspace: usize,
+}
+
+/// Random counts for a multiset with about so many actions.
+fn counts(random: &mut Random, users: usize, actions: usize) -> [u8; 16] {
+    let mut counts = [0; 16];
+    for _ in 0..actions {
+        counts[random.below(users)] += 1;
+    }
+    if random.percent(4) {
+        counts[random.below(16)] = random.pick(&[1, 12, 13, 255]);
+    }
+    counts
+}
+
+/// A random input for the multiset test.
+pub fn multiset_input(random: &mut Random) -> MultisetInput {
+    let case = match random.below(10) {
+        0 => cases::misworded(random),
+        1..=3 => cases::case(random, 5, 3, 70),
+        _ => cases::rich_case(random),
+    };
+    let actions = random.pick(&[0, 1, 2, 2, 3, 3, 4, 5, 6, 12, 13]);
+    let users = usize::from(case.users);
+    MultisetInput {
+        users,
+        roles: case.roles.into(),
+        words: case.policy,
+        user_roles: case.user_roles,
+        counts: counts(random, users.clamp(1, 16), actions),
+        workspace: workspace_length(random),
+    }
+}
+
+/// The multiset test at its edges, with names.
+pub fn multiset_edges() -> Vec<(&'static str, MultisetInput)> {
+    let base = MultisetInput {
+        users: 3,
+        roles: 3,
+        words: POLICY_F.to_vec(),
+        user_roles: vec![2, 5, 4],
+        counts: [0; 16],
+        workspace: 8192,
+    };
+    let counted = |pairs: &[(usize, u8)]| {
+        let mut counts = [0; 16];
+        pairs.iter().for_each(|(user, count)| counts[*user] = *count);
+        MultisetInput { counts, ..base.clone() }
+    };
+    let full = MultisetInput { words: vec![0x05000000, 0x01000000], ..counted(&[(0, 5), (1, 7)]) };
+    let no_policy = MultisetInput { words: vec![], ..counted(&[(3, 1)]) };
+    vec![
+        ("P2", counted(&[(0, 2), (1, 1), (2, 1)])),
+        ("P3", counted(&[(0, 1), (2, 1)])),
+        ("P4", counted(&[(0, 1), (1, 1)])),
+        ("empty", base.clone()),
+        ("twelve", full.clone()),
+        ("thirteen", counted(&[(0, 6), (1, 7)])),
+        ("255 and 255", counted(&[(0, 255), (1, 255)])),
+        ("undeclared user", counted(&[(3, 1)])),
+        ("undeclared user 15", counted(&[(0, 1), (15, 1)])),
+        ("7 before 8", counted(&[(0, 12), (3, 1)])),
+        ("1 before 7", no_policy.clone()),
+        ("5 before 1", MultisetInput { users: 17, ..no_policy.clone() }),
+        ("6 before 7", MultisetInput { user_roles: vec![2, 5], ..counted(&[(3, 1)]) }),
+        ("12 before 5", MultisetInput { users: 0, workspace: 8191, ..no_policy }),
+        ("8,191 words", MultisetInput { workspace: 8191, ..full.clone() }),
+        ("8,193 words", MultisetInput { workspace: 8193, ..full }),
+    ]
+}
+
+/// Input for one event on a raw instance, and for its status.
+#[derive(Clone, Debug, PartialEq, Eq)]
+pub struct EventInput {
+    /// The instance.
+    pub instance: RawInstance,
+    /// The event word.
+    pub word: u32,
+    /// The length of the workspace.
+    pub workspace: usize,
+}
+
+/// A random event on a random well-formed raw instance.
+pub fn event_input(random: &mut Random) -> EventInput {
+    let (words, actions) = random.pick(&[(5, 3), (9, 4), (13, 5), (31, 4), (7, 7), (3, 12)]);
+    let instance = instances::well_formed(random, words, actions);
+    let word = event(random, instance.users, instance.roles);
+    EventInput { instance, word, workspace: workspace_length(random) }
+}
+
+/// An event on each malformed and each odd raw instance, with names.
+pub fn event_edges(random: &mut Random) -> Vec<(String, EventInput)> {
+    let mut named = instances::malformed(random);
+    named.extend(instances::odd_but_well_formed(random));
+    let mut found = Vec::new();
+    for (name, instance) in named {
+        for word in [action(0), action(1), CLOSE, grant(0, 0), 0] {
+            let input = EventInput { instance, word, workspace: workspace_length(random) };
+            found.push((format!("{name}, event {word:08x}"), input));
+        }
+    }
+    found.extend(full_instances(random));
+    found
+}
+
+/// Instances with eleven and twelve actions, open and closed, and workspaces of every length.
+fn full_instances(random: &mut Random) -> Vec<(String, EventInput)> {
+    let style = Style { users: 2, roles: 2, lean: 0 };
+    let policy = Term::plus(terms::unit(random, style, 3));
+    let mut found = Vec::new();
+    for count in [11, 12] {
+        for closed in [false, true] {
+            let mut instance = instances::with_policy(random, style, &policy, 0);
+            instance.user_roles[..2].copy_from_slice(&user_roles(random, 2, 2));
+            instance.count = count;
+            instance.closed = closed;
+            instance.actions[..count].iter_mut().for_each(|action| action.met = 0b1110);
+            for (word, workspace) in
+                [(action(0), 8192), (action(2), 8192), (CLOSE, 8192), (action(1), 8191), (0, 0)]
+            {
+                let name = format!("{count} actions, closed {closed}, event {word:08x}");
+                found.push((name, EventInput { instance, word, workspace }));
+            }
+        }
+    }
+    found
+}

@@ -1,0 +1,204 @@
+//! Raw instances: well formed, and malformed in each way that number 15 lists.
+
+use super::cases::user_roles;
+use super::terms::{self, Style};
+use super::Random;
+use crate::policy::{Operator, Term};
+use crate::raw::{RawAction, RawInstance};
+
+/// A raw instance with a name that says what is odd about it.
+pub type NamedInstance = (String, RawInstance);
+
+/// A well-formed raw instance with this policy; its noted bits and its closed mark are random, so
+/// that in most cases no run reaches it.
+pub fn with_policy(
+    random: &mut Random,
+    style: Style,
+    policy: &Term,
+    most_actions: usize,
+) -> RawInstance {
+    let mut raw = RawInstance { users: style.users, roles: style.roles, ..RawInstance::BLANK };
+    let words = policy.words();
+    raw.length = words.len();
+    raw.policy[..words.len()].copy_from_slice(&words);
+    let rows = user_roles(random, style.users, style.roles);
+    raw.user_roles[..style.users].copy_from_slice(&rows);
+    raw.count = random.below(most_actions + 1);
+    let mask = policy.unit_mask();
+    let thin = random.percent(50);
+    for action in &mut raw.actions[..raw.count] {
+        let bits = if thin { random.word() } else { random.word() | random.word() };
+        *action = RawAction { user: random.below(style.users), met: bits & mask };
+    }
+    raw.closed = random.percent(15);
+    raw
+}
+
+/// A random well-formed raw instance with at most this many policy words and actions.
+pub fn well_formed(random: &mut Random, most_words: usize, most_actions: usize) -> RawInstance {
+    let most = random.pick(&[2, 3, 5, 16]);
+    let users = random.between(1, most);
+    let style = Style { users, roles: random.between(1, most), lean: random.pick(&[30, 60, 90]) };
+    let words = random.between(1, most_words);
+    let policy = terms::term(random, style, words);
+    with_policy(random, style, &policy, most_actions)
+}
+
+/// An instance that leaves room to be malformed in every way: some user, role, policy word, place
+/// and row is not used, some action is taken, and the first word begins no unit term.
+fn roomy(random: &mut Random) -> RawInstance {
+    let style = Style { users: random.between(1, 15), roles: random.between(1, 15), lean: 60 };
+    let words = random.between(1, 13);
+    let side = terms::term(random, style, words);
+    let operator = random.pick(&[Operator::Together, Operator::Apart]);
+    let policy = Term::join(operator, side, Term::plus(Term::Everyone));
+    loop {
+        let raw = with_policy(random, style, &policy, 11);
+        if raw.count > 0 {
+            return raw;
+        }
+    }
+}
+
+/// A roomy instance with something altered.
+fn with(random: &mut Random, name: &str, alter: impl Fn(&mut RawInstance)) -> NamedInstance {
+    let mut raw = roomy(random);
+    alter(&mut raw);
+    (name.to_string(), raw)
+}
+
+/// Counts and policy lengths that the opening would refuse with 5 and 1.
+fn malformed_counts(random: &mut Random) -> Vec<NamedInstance> {
+    let mut found = Vec::new();
+    for count in [0, 17, 255] {
+        found.push(with(random, &format!("{count} users"), |raw| raw.users = count));
+        found.push(with(random, &format!("{count} roles"), |raw| raw.roles = count));
+    }
+    for length in [0, 32, 255] {
+        found.push(with(random, &format!("{length} policy words"), |raw| raw.length = length));
+    }
+    found.push(("blank".to_string(), RawInstance::BLANK));
+    found.push(("blank, closed".to_string(), RawInstance { closed: true, ..RawInstance::BLANK }));
+    found
+}
+
+/// Policy words that the opening would refuse with 2.
+fn malformed_words(random: &mut Random) -> Vec<NamedInstance> {
+    vec![
+        with(random, "kind 0", |raw| raw.policy[0] = 0),
+        with(random, "kind 10", |raw| raw.policy[0] = 0x0a000000),
+        with(random, "bit 16 of a policy word", |raw| raw.policy[0] |= 1 << 16),
+        with(random, "bit 23 of a policy word", |raw| raw.policy[raw.length - 1] |= 1 << 23),
+        with(random, "operand of an operator", |raw| raw.policy[0] |= 1),
+        with(random, "undeclared role in the policy", |raw| {
+            raw.policy[raw.length - 1] = 0x02000000 | raw.roles as u32;
+        }),
+        with(random, "undeclared user in a set", |raw| {
+            raw.policy[raw.length - 1] = 0x03000000 | 1 << raw.users;
+        }),
+        with(random, "empty set", |raw| raw.policy[raw.length - 1] = 0x03000000),
+    ]
+}
+
+/// Policies that the opening would refuse with 3 and 4.
+fn malformed_terms(random: &mut Random) -> Vec<NamedInstance> {
+    vec![
+        with(random, "a word too many", |raw| {
+            raw.policy[raw.length] = 0x01000000;
+            raw.length += 1;
+        }),
+        with(random, "a word too few", |raw| {
+            raw.length -= 1;
+            raw.policy[raw.length] = 0;
+            raw.actions.iter_mut().for_each(|action| action.met = 0);
+        }),
+        with(random, "plus over plus", |raw| {
+            raw.policy[raw.length - 1] = 0x05000000;
+            raw.policy[raw.length] = 0x01000000;
+            raw.length += 1;
+        }),
+        with(random, "not over together", |raw| {
+            raw.policy.copy_within(0..30, 1);
+            raw.policy[0] = 0x04000000;
+            raw.length += 1;
+            raw.actions.iter_mut().for_each(|action| action.met = 0);
+        }),
+    ]
+}
+
+/// Malformed rows of roles, numbers of actions, users and noted bits.
+fn malformed_actions(random: &mut Random) -> Vec<NamedInstance> {
+    vec![
+        with(random, "undeclared role of a user", |raw| {
+            raw.user_roles[raw.users - 1] |= 1 << raw.roles;
+        }),
+        with(random, "role 15 of a user", |raw| raw.user_roles[0] |= 1 << 15),
+        with(random, "13 actions", |raw| raw.count = 13),
+        with(random, "255 actions", |raw| raw.count = 255),
+        with(random, "undeclared user of an action", |raw| raw.actions[0].user = raw.users),
+        with(random, "user 16 of an action", |raw| raw.actions[raw.count - 1].user = 16),
+        with(random, "user 255 of an action", |raw| raw.actions[raw.count - 1].user = 255),
+        with(random, "bit at an operator", |raw| raw.actions[0].met |= 1),
+        with(random, "bit at a plus", |raw| {
+            raw.actions[raw.count - 1].met |= 1 << (raw.length - 2);
+        }),
+        with(random, "bit past the policy", |raw| raw.actions[0].met |= 1 << raw.length),
+        with(random, "bit 31", |raw| raw.actions[raw.count - 1].met |= 1 << 31),
+    ]
+}
+
+/// Unused places, policy words and rows of roles that are not zero.
+fn malformed_rest(random: &mut Random) -> Vec<NamedInstance> {
+    vec![
+        with(random, "user in the first unused place", |raw| raw.actions[raw.count].user = 1),
+        with(random, "user in the last unused place", |raw| raw.actions[11].user = 1),
+        with(random, "bits in an unused place", |raw| {
+            raw.actions[raw.count].met = 1 << (raw.length - 1);
+        }),
+        with(random, "bits in the last unused place", |raw| raw.actions[11].met = 1),
+        with(random, "first unused policy word", |raw| raw.policy[raw.length] = 0x01000000),
+        with(random, "last unused policy word", |raw| raw.policy[30] = 1),
+        with(random, "first unused row of roles", |raw| raw.user_roles[raw.users] = 1),
+        with(random, "last unused row of roles", |raw| raw.user_roles[15] = 1 << 15),
+    ]
+}
+
+/// Raw instances for each way of being malformed, each with its name; some are closed, since 15
+/// comes before 10.
+pub fn malformed(random: &mut Random) -> Vec<NamedInstance> {
+    let kinds =
+        [malformed_counts, malformed_words, malformed_terms, malformed_actions, malformed_rest];
+    kinds.into_iter().flat_map(|kind| kind(random)).collect()
+}
+
+/// Raw instances that no run reaches and that are not malformed all the same.
+pub fn odd_but_well_formed(random: &mut Random) -> Vec<NamedInstance> {
+    let style = Style { users: 3, roles: 2, lean: 60 };
+    let unit = Term::join(Operator::Either, Term::Role(0), Term::Role(1));
+    let base = |random: &mut Random, policy: &Term| RawInstance {
+        closed: false,
+        count: 0,
+        ..with_policy(random, style, policy, 0)
+    };
+    let mut closed = base(random, &unit);
+    closed.closed = true;
+    let mut impossible = base(random, &unit);
+    impossible.count = 12;
+    let mut contradicted = base(random, &unit);
+    contradicted.count = 1;
+    contradicted.actions[0] = RawAction { user: 2, met: 0b001 };
+    let mut sides_only = base(random, &unit);
+    sides_only.count = 1;
+    sides_only.actions[0] = RawAction { user: 2, met: 0b110 };
+    let mut not_and_inner = base(random, &Term::plus(Term::not(Term::Role(0))));
+    not_and_inner.count = 2;
+    not_and_inner.actions[0] = RawAction { user: 1, met: 0b110 };
+    not_and_inner.actions[1] = RawAction { user: 1, met: 0b010 };
+    vec![
+        ("closed, but nothing taken".to_string(), closed),
+        ("twelve actions that are not possible".to_string(), impossible),
+        ("the whole without a side".to_string(), contradicted),
+        ("the sides without the whole".to_string(), sides_only),
+        ("a not with its inner term".to_string(), not_and_inner),
+    ]
+}

@@ -1,0 +1,30 @@
+//! A second, independent reading of the papers, to compare the proved monitor with.
+//!
+//! It is written from 01 and document 004 alone, by search on lists of actions. Where 01 speaks of
+//! people, sheets, standings and bags, the code says users, instances, statuses and multisets.
+//!
+//! - [`policy`]: terms, reading policy words, the normal form;
+//! - [`search`]: satisfied and possible, by search on lists;
+//! - [`monitor`]: instances grown by events, the multiset test;
+//! - [`raw`]: instances given as raw data with noted bits, and number 15;
+//! - [`workspace`]: the words that a workspace must hold;
+//! - [`casefile`]: case files and the judge's output;
+//! - [`literal`]: Definitions 3 to 7 rule by rule, for small cases;
+//! - [`generate`]: inputs for comparisons, from a seed;
+//! - [`examples`]: 01's settled examples and tempting mistakes, as checks;
+//! - [`selfcheck`]: the search held against the literal definitions.
+
+#![forbid(unsafe_code)]
+#![deny(missing_docs)]
+
+pub mod casefile;
+pub mod code;
+pub mod examples;
+pub mod generate;
+pub mod literal;
+pub mod monitor;
+pub mod policy;
+pub mod raw;
+pub mod search;
+pub mod selfcheck;
+pub mod workspace;

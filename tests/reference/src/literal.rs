@@ -1,0 +1,164 @@
+//! Definitions 3 to 7 of document 004, rule by rule, for small cases.
+//!
+//! Nothing here is shared with the search: users' roles are a relation, multisets are counts,
+//! traces are lists of events, and processes are labelled transitions.
+
+mod multisets;
+mod processes;
+mod traces;
+
+pub use multisets::{multiset_satisfies, Multiset};
+pub use processes::{accepts, map_term, next, Process, Reading, Synchronised};
+pub use traces::{si, trace_satisfies, users_of};
+
+use std::collections::BTreeSet;
+
+/// A user-assignment relation: the pairs of a user and a role (Definition 1).
+pub type Assignment = BTreeSet<(usize, usize)>;
+
+/// An event of a trace or a process.
+#[derive(Clone, Copy, Debug, PartialEq, Eq, PartialOrd, Ord, Hash)]
+pub enum Event {
+    /// A business event: this user executes this action.
+    Business {
+        /// The user.
+        user: usize,
+        /// The action.
+        action: u8,
+    },
+    /// An admin event: addUA, this user is given this role.
+    Add {
+        /// The user.
+        user: usize,
+        /// The role.
+        role: usize,
+    },
+    /// An admin event: rmUA, this role is taken from this user.
+    Remove {
+        /// The user.
+        user: usize,
+        /// The role.
+        role: usize,
+    },
+    /// The workflow has finished; in no trace of Definitions 5 and 6.
+    Done,
+}
+
+impl Event {
+    /// Whether this is a business event.
+    pub fn is_business(&self) -> bool {
+        matches!(self, Event::Business { .. })
+    }
+
+    /// Whether this is an admin event.
+    pub fn is_admin(&self) -> bool {
+        matches!(self, Event::Add { .. } | Event::Remove { .. })
+    }
+}
+
+/// Definition 4: how a trace of admin events changes a user-assignment relation.
+///
+/// # Panics
+/// If an event is no admin event.
+pub fn upd(assignment: &Assignment, events: &[Event]) -> Assignment {
+    let mut changed = assignment.clone();
+    for event in events {
+        match event {
+            Event::Add { user, role } => changed.insert((*user, *role)),
+            Event::Remove { user, role } => changed.remove(&(*user, *role)),
+            Event::Business { .. } | Event::Done => panic!("{event:?} is no admin event"),
+        };
+    }
+    changed
+}
+
+#[cfg(test)]
+mod tests {
+    use super::*;
+    use crate::policy::{Operator, Term};
+
+    const ALICE: usize = 0;
+    const BOB: usize = 1;
+    const CLAIRE: usize = 2;
+    const ACCOUNTANT: usize = 0;
+    const CLERK: usize = 1;
+    const MANAGER: usize = 2;
+
+    #[test]
+    fn example_3() {
+        let accountant = || Term::Role(ACCOUNTANT);
+        let two = Term::join(Operator::Apart, accountant(), accountant());
+        let either = Term::join(Operator::Either, Term::Role(MANAGER), two);
+        let apart = Term::join(Operator::Apart, accountant(), either);
+        let term = Term::join(Operator::Together, apart, Term::plus(Term::Everyone));
+        let assignment = Assignment::from([
+            (ALICE, CLERK),
+            (BOB, ACCOUNTANT),
+            (BOB, MANAGER),
+            (CLAIRE, MANAGER),
+        ]);
+        assert!(multiset_satisfies(&vec![2, 1, 1], &assignment, &term));
+        assert!(!multiset_satisfies(&vec![1, 0, 1], &assignment, &term));
+        assert!(!multiset_satisfies(&vec![1, 1, 0], &assignment, &term));
+    }
+
+    #[test]
+    fn example_4() {
+        let bob = || Term::set(&[BOB]);
+        let tail = Term::join(Operator::Together, bob(), Term::plus(bob()));
+        let term = Term::join(Operator::Together, bob(), tail);
+        let assignment = Assignment::from([(BOB, CLERK)]);
+        for count in 0..6 {
+            let satisfied = multiset_satisfies(&vec![0, count], &assignment, &term);
+            assert_eq!(satisfied, count >= 3, "{count} times Bob");
+        }
+    }
+
+    /// Example 5's trace, with this user making the first action.
+    fn example_trace(first: usize) -> [Event; 4] {
+        [
+            Event::Add { user: BOB, role: MANAGER },
+            Event::Business { user: first, action: 0 },
+            Event::Remove { user: BOB, role: MANAGER },
+            Event::Business { user: BOB, action: 1 },
+        ]
+    }
+
+    #[test]
+    fn examples_5_and_6() {
+        let term =
+            Term::join(Operator::Together, Term::Role(MANAGER), Term::not(Term::Role(MANAGER)));
+        let users = BTreeSet::from([ALICE, BOB]);
+        let process = map_term(&term, &users, &Assignment::new(), Reading::UnitFirst);
+        for (first, expected) in [(BOB, true), (ALICE, false)] {
+            let trace = example_trace(first);
+            assert_eq!(trace_satisfies(&trace, 2, &Assignment::new(), &term), expected);
+            assert_eq!(!accepts(&process, &trace).is_empty(), expected);
+            let finished = [&trace[..], &[Event::Done]].concat();
+            assert_eq!(!accepts(&process, &finished).is_empty(), expected);
+            assert!(!accepts(&process, &trace[..3]).is_empty());
+        }
+        let twice = users_of(&example_trace(BOB), 2);
+        let manager = Assignment::from([(BOB, MANAGER)]);
+        assert_eq!(twice, [0, 2]);
+        assert!(!multiset_satisfies(&twice, &manager, &term));
+        assert!(!multiset_satisfies(&twice, &Assignment::new(), &term));
+    }
+
+    #[test]
+    fn fin_takes_admin_events_and_done_and_then_stops() {
+        let add = Event::Add { user: 0, role: 0 };
+        assert_eq!(next(&Process::Fin, add), BTreeSet::from([Process::Fin]));
+        assert_eq!(next(&Process::Fin, Event::Done), BTreeSet::from([Process::Stop]));
+        assert!(next(&Process::Fin, Event::Business { user: 0, action: 0 }).is_empty());
+        assert!(next(&Process::Stop, Event::Done).is_empty());
+        assert!(next(&Process::Stop, add).is_empty());
+    }
+
+    #[test]
+    fn upd_adds_and_removes() {
+        let start = Assignment::from([(0, 0)]);
+        let events = [Event::Add { user: 1, role: 1 }, Event::Remove { user: 0, role: 0 }];
+        assert_eq!(upd(&start, &events), Assignment::from([(1, 1)]));
+    }
+}

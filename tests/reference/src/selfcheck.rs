@@ -1,0 +1,372 @@
+//! The search held against the literal definitions on small random cases, and 01's examples.
+
+use std::collections::{BTreeMap, BTreeSet};
+
+use crate::code::{self, Code};
+use crate::examples;
+use crate::generate::terms::{self, Style};
+use crate::generate::{cases, Random};
+use crate::literal::{self, Assignment, Process, Reading};
+use crate::monitor::{self, Instance, Taken};
+use crate::policy::{self, Term};
+use crate::search::{Question, Search};
+use crate::workspace;
+
+/// How many checks passed and how many failed, and what the random cases covered.
+#[derive(Clone, Debug, Default, PartialEq, Eq)]
+pub struct Tally {
+    /// Checks that passed.
+    pub passed: usize,
+    /// Checks that failed.
+    pub failed: usize,
+    /// How often each thing of interest came up in the random cases.
+    pub covered: BTreeMap<&'static str, usize>,
+}
+
+impl Tally {
+    /// Counts one check; prints the first failures.
+    pub fn check(&mut self, name: &str, passed: bool, case: &dyn std::fmt::Debug) {
+        if passed {
+            self.passed += 1;
+            return;
+        }
+        self.failed += 1;
+        if self.failed <= 10 {
+            println!("failed: {name}: {case:?}");
+        }
+    }
+
+    /// Counts one thing of interest: the first name for yes, the second for no.
+    fn cover(&mut self, yes: &'static str, no: &'static str, happened: bool) {
+        *self.covered.entry(if happened { yes } else { no }).or_default() += 1;
+    }
+}
+
+/// A small random case.
+#[derive(Clone, Debug)]
+struct Small {
+    users: usize,
+    roles: usize,
+    term: Term,
+    user_roles: Vec<u16>,
+    events: Vec<monitor::Event>,
+}
+
+impl Small {
+    /// Two or three users, two roles, at most seven words and four events.
+    fn random(random: &mut Random) -> Small {
+        let (users, roles) = (random.between(2, 3), 2);
+        let style = Style { users, roles, lean: random.pick(&[50, 80]) };
+        let term = small_term(random, style);
+        let user_roles = cases::user_roles(random, users, roles);
+        let events = (0..random.below(5)).map(|_| small_event(random, users, roles)).collect();
+        Small { users, roles, term, user_roles, events }
+    }
+
+    /// The roles of the users as a relation.
+    fn assignment(&self) -> Assignment {
+        let rows = self.user_roles.iter().enumerate();
+        rows.flat_map(|(user, row)| policy::ones(*row).into_iter().map(move |role| (user, role)))
+            .collect()
+    }
+
+    /// The instance, opened.
+    fn open(&self) -> Instance {
+        Instance::open(self.users, self.roles, &self.term.words(), &self.user_roles)
+            .expect("a small case opens")
+    }
+
+    /// The process of the policy.
+    fn process(&self, reading: Reading) -> Process {
+        let users: BTreeSet<usize> = (0..self.users).collect();
+        literal::map_term(&self.term, &users, &self.assignment(), reading)
+    }
+
+    /// The events as a trace; events that differ only in their action are told apart.
+    fn trace(&self) -> Vec<literal::Event> {
+        let event = |(place, event): (usize, &monitor::Event)| as_literal(*event, place as u8 % 2);
+        self.events.iter().enumerate().map(event).collect()
+    }
+}
+
+/// A random term of at most seven words; half of them are ones that many lists of actions fit.
+fn small_term(random: &mut Random, style: Style) -> Term {
+    let words = random.between(1, 7);
+    let operands = random.between(1, 4);
+    let rich = terms::rich(random, style, operands);
+    if rich.length() <= 7 && random.percent(50) {
+        rich
+    } else {
+        terms::term(random, style, words)
+    }
+}
+
+/// A random action, grant or revocation.
+fn small_event(random: &mut Random, users: usize, roles: usize) -> monitor::Event {
+    let (user, role) = (random.below(users), random.below(roles));
+    match random.below(10) {
+        0..=6 => monitor::Event::Action { user },
+        7 | 8 => monitor::Event::Grant { user, role },
+        _ => monitor::Event::Revoke { user, role },
+    }
+}
+
+/// The event of the literal definitions.
+fn as_literal(event: monitor::Event, action: u8) -> literal::Event {
+    match event {
+        monitor::Event::Action { user } => literal::Event::Business { user, action },
+        monitor::Event::Grant { user, role } => literal::Event::Add { user, role },
+        monitor::Event::Revoke { user, role } => literal::Event::Remove { user, role },
+        monitor::Event::Close => literal::Event::Done,
+    }
+}
+
+/// The event word.
+fn as_word(event: monitor::Event) -> u32 {
+    match event {
+        monitor::Event::Action { user } => examples::action(user as u32),
+        monitor::Event::Grant { user, role } => examples::grant(user as u32, role as u32),
+        monitor::Event::Revoke { user, role } => examples::revoke(user as u32, role as u32),
+        monitor::Event::Close => examples::CLOSE,
+    }
+}
+
+/// The whole self check: 01's examples, then so many random cases for the seed.
+pub fn selfcheck(seed: u64, count: usize) -> Tally {
+    let mut tally = Tally::default();
+    for (name, passed) in examples::settled().into_iter().chain(examples::mistakes()) {
+        tally.check(name, passed, &"01's example");
+    }
+    let mut random = Random::new(seed);
+    for _ in 0..count {
+        let small = Small::random(&mut random);
+        check_run(&mut tally, &small);
+        check_whole_trace(&mut tally, &small);
+        check_multiset(&mut tally, &small, &mut random);
+        check_equal_form(&mut tally, &small, &mut random);
+        check_workspace(&mut tally, &small);
+    }
+    tally
+}
+
+/// The monitor against Definitions 6 and 7, event by event: a refused action is not in the trace.
+fn check_run(tally: &mut Tally, small: &Small) {
+    let mut instance = small.open();
+    let mut raw = instance.raw();
+    let mut states = BTreeSet::from([small.process(Reading::UnitFirst)]);
+    let mut trace: Vec<literal::Event> = Vec::new();
+    for (event, label) in small.events.iter().zip(small.trace()) {
+        let code = instance.step(as_word(*event)).code;
+        let reached: BTreeSet<Process> =
+            states.iter().flat_map(|state| literal::next(state, label)).collect();
+        let expected = if reached.is_empty() { code::NOT_POSSIBLE } else { code::ACCEPTED };
+        tally.check("an event is accepted when the process engages in it", code == expected, small);
+        if code == code::ACCEPTED {
+            states = reached;
+            trace.push(label);
+        }
+        if label.is_business() {
+            tally.cover("actions taken", "actions refused", code == code::ACCEPTED);
+        }
+        let by_bits = raw.step(as_word(*event)).code;
+        tally.check(
+            "the bits and the roles agree",
+            by_bits == code && raw == instance.raw(),
+            small,
+        );
+        check_letter(tally, small, &mut instance, &trace);
+    }
+    check_close(tally, small, &mut instance, &states, &trace);
+}
+
+/// The status against Definition 6.
+fn check_letter(
+    tally: &mut Tally,
+    small: &Small,
+    instance: &mut Instance,
+    trace: &[literal::Event],
+) {
+    let satisfied = literal::trace_satisfies(trace, small.users, &small.assignment(), &small.term);
+    let letter = if satisfied { 'c' } else { 'o' };
+    tally.check("the status follows Definition 6", instance.letter() == letter, small);
+    let by_bits = instance.raw().letter();
+    tally.check("the status by bits follows Definition 6", by_bits == Ok(letter), small);
+}
+
+/// A close against done (Definition 7) and against Definition 6.
+fn check_close(
+    tally: &mut Tally,
+    small: &Small,
+    instance: &mut Instance,
+    states: &BTreeSet<Process>,
+    trace: &[literal::Event],
+) {
+    let done = states.iter().any(|state| !literal::next(state, literal::Event::Done).is_empty());
+    let satisfied = literal::trace_satisfies(trace, small.users, &small.assignment(), &small.term);
+    tally.check("done is accepted when the trace satisfies", done == satisfied, small);
+    let expected: Code = if done { code::ACCEPTED } else { code::NOT_SATISFIED };
+    let code = instance.step(examples::CLOSE).code;
+    tally.check("a close follows Definition 7", code == expected, small);
+    tally.cover("closes taken", "closes refused", done);
+    let letter = if done { 'd' } else { 'o' };
+    tally.check("the status after a close", instance.letter() == letter, small);
+}
+
+/// The actions of a whole trace, each with the roles held at the time, none refused.
+fn actions_of(small: &Small) -> Vec<Taken> {
+    let mut held: Vec<BTreeSet<usize>> =
+        small.user_roles.iter().map(|row| policy::ones(*row)).collect();
+    let mut actions = Vec::new();
+    for event in &small.events {
+        match *event {
+            monitor::Event::Action { user } => {
+                actions.push(Taken { user, held: held[user].clone() });
+            }
+            monitor::Event::Grant { user, role } => {
+                held[user].insert(role);
+            }
+            monitor::Event::Revoke { user, role } => {
+                held[user].remove(&role);
+            }
+            monitor::Event::Close => {}
+        }
+    }
+    actions
+}
+
+/// Satisfied and possible for all actions of a trace, also where a monitor would have refused
+/// one, against Definitions 6 and 7; and both readings of Definition 7 against each other.
+fn check_whole_trace(tally: &mut Tally, small: &Small) {
+    let actions = actions_of(small);
+    let mut search = Search::new(&small.term);
+    let trace = small.trace();
+    let satisfied = literal::trace_satisfies(&trace, small.users, &small.assignment(), &small.term);
+    tally.check("satisfied is Definition 6", search.satisfied(&actions) == satisfied, small);
+    let unit_first = literal::accepts(&small.process(Reading::UnitFirst), &trace);
+    let possible = search.possible(&actions);
+    tally.check("possible is Definition 7", possible != unit_first.is_empty(), small);
+    tally.cover("whole traces possible", "whole traces not possible", possible);
+    tally.cover("whole traces satisfying", "whole traces not satisfying", satisfied);
+    let operators_first = literal::accepts(&small.process(Reading::OperatorsFirst), &trace);
+    let same = unit_first.is_empty() == operators_first.is_empty();
+    tally.check("both readings accept the same traces", same, small);
+    let done = |states: &BTreeSet<Process>| {
+        states.iter().any(|state| !literal::next(state, literal::Event::Done).is_empty())
+    };
+    let same = done(&unit_first) == done(&operators_first);
+    tally.check("both readings finish after the same traces", same, small);
+    tally.check("done goes with Definition 6", done(&unit_first) == satisfied, small);
+}
+
+/// The multiset test against Definition 3, and Definition 6 against it where no role changes.
+fn check_multiset(tally: &mut Tally, small: &Small, random: &mut Random) {
+    let mut counts = [0u8; 16];
+    let mut trace = Vec::new();
+    for place in 0..random.below(5) {
+        let user = random.below(small.users);
+        counts[user] += 1;
+        trace.push(literal::Event::Business { user, action: place as u8 % 2 });
+    }
+    let many = counts[..small.users].iter().map(|count| usize::from(*count)).collect();
+    let assignment = small.assignment();
+    let expected = literal::multiset_satisfies(&many, &assignment, &small.term);
+    tally.cover("multisets yes", "multisets no", expected);
+    let mut lent = vec![7; workspace::WORDS];
+    let words = small.term.words();
+    let answer =
+        monitor::multiset(small.users, small.roles, &words, &small.user_roles, &counts, &mut lent);
+    tally.check("the multiset test is Definition 3", answer == Ok(expected), &(small, counts));
+    let by_trace = literal::trace_satisfies(&trace, small.users, &assignment, &small.term);
+    tally.check("Definitions 3 and 6 agree", by_trace == expected, &(small, &trace));
+    let actions =
+        monitor::open_multiset(small.users, small.roles, &words, &small.user_roles, &counts)
+            .map(|(_, actions)| actions)
+            .unwrap_or_default();
+    let fits = workspace::fits_some_numbering(&small.term, &actions, &lent);
+    tally.check("the workspace of a multiset fits", fits, &(small, counts));
+}
+
+/// Equal forms have one normal form and give the same answers; normal forms are accepted and are
+/// their own normal forms.
+fn check_equal_form(tally: &mut Tally, small: &Small, random: &mut Random) {
+    let steps = random.below(8);
+    let equal = terms::equal_form(random, &small.term, steps);
+    let words = small.term.words();
+    let read = policy::read_term(small.users, small.roles, &words);
+    tally.check("a term is read from its words", read.as_ref() == Ok(&small.term), small);
+    let normal = small.term.normal();
+    tally.check("equal forms, one normal form", normal == equal.normal(), &(small, &equal));
+    tally.check("normal twice is normal once", normal == normal.normal(), small);
+    let answers = |term: &Term| {
+        let mut instance = Small { term: term.clone(), ..small.clone() }.open();
+        let word_answers = small.events.iter().chain(&[monitor::Event::Close]).map(|event| {
+            let code = instance.step(as_word(*event)).code;
+            (code, instance.letter())
+        });
+        word_answers.collect::<Vec<_>>()
+    };
+    let same = answers(&small.term) == answers(&equal) && answers(&equal) == answers(&normal);
+    tally.check("equal forms, the same answers", same, &(small, &equal));
+}
+
+/// Each bit of the workspace against Definitions 6 and 7: the set's actions with all admin events.
+fn check_workspace(tally: &mut Tally, small: &Small) {
+    let actions = actions_of(small);
+    let words = workspace::expected(&small.term, &actions);
+    let terms = small.term.prefix_order();
+    let users: BTreeSet<usize> = (0..small.users).collect();
+    let mut agree = true;
+    for set in 0..1usize << actions.len() {
+        let trace = chosen(&small.trace(), set);
+        for (word, term) in terms.iter().enumerate() {
+            let satisfied =
+                literal::trace_satisfies(&trace, small.users, &small.assignment(), term);
+            let process = literal::map_term(term, &users, &small.assignment(), Reading::UnitFirst);
+            let possible = !literal::accepts(&process, &trace).is_empty();
+            agree &= (words[set] >> word & 1 == 1) == satisfied;
+            agree &= (words[workspace::POSSIBLE + set] >> word & 1 == 1) == possible;
+        }
+    }
+    tally.check("the workspace is Definitions 6 and 7", agree, small);
+    let noted = noted(&small.term, &actions);
+    let by_bits = workspace::expected(&small.term, &noted);
+    tally.check("the workspace by bits is the same", by_bits == words, small);
+    let empty = Search::new(&small.term).ask(Question::Possible, 0, &noted[..0]);
+    tally.check("no action is possible", empty, small);
+}
+
+/// The same actions with noted bits.
+fn noted(term: &Term, actions: &[Taken]) -> Vec<crate::raw::RawAction> {
+    let note =
+        |action: &Taken| crate::raw::RawAction { user: action.user, met: action.noted_bits(term) };
+    actions.iter().map(note).collect()
+}
+
+/// The trace without the business events that are not in the set.
+fn chosen(trace: &[literal::Event], set: usize) -> Vec<literal::Event> {
+    let mut place = 0;
+    let mut kept = Vec::new();
+    for event in trace {
+        if !event.is_business() {
+            kept.push(*event);
+            continue;
+        }
+        if set >> place & 1 == 1 {
+            kept.push(*event);
+        }
+        place += 1;
+    }
+    kept
+}
+
+#[cfg(test)]
+mod tests {
+    use super::*;
+
+    #[test]
+    fn small_cases_agree() {
+        let tally = selfcheck(20240, 300);
+        assert_eq!(tally.failed, 0);
+        assert!(tally.passed > 300);
+    }
+}
