@@ -1,39 +1,35 @@
 -- Demand 2: the instance of a run keeps step with a trace, so the theorems of the algebra speak of its next answer.
 use mathlib.Core.Path.{_≡_, refl, sym, _∙_, ap, ap₂, subst, subst₂}
-use mathlib.Core.Logic.{_⊎_, inl, inr, _↔_}
-use mathlib.Core.Bool.{Bool, true, false, So, not, _&&_, _||_, cond, or-true, or-false, true≢false}
+use mathlib.Core.Logic.{_↔_}
+use mathlib.Core.Bool.{Bool, true, false, So, not, _||_, cond, true≢false}
 use mathlib.Core.List.{List, [], _∷_, _++_, map, map-append, append-nil, append-assoc}
-use mathlib.Core.Option.{some}
 use Prim.Native.Nat.{ℕ, _+_, _%_, _^_, _≤_, _<_}
 use native.Mathlib.Omega.{arith}
 use lib.Dec.{leb, ltb, eqb}
-use lib.ListN.{length, getD}
+use lib.ListN.{length}
 use Rattle.soda.specs.Terms.{Term, wellFormed}
-use Rattle.soda.specs.Tables.{Action, satisfied, possible, note}
-use Rattle.soda.specs.Multisets.{multiset, SatM}
-use Rattle.soda.specs.Traces.{Event, business, addUA, rmUA, Trace, upd, businessOnly, users as usersOf, actedBelow, execution, noted, SatT}
+use Rattle.soda.specs.Tables.{satisfied, possible}
+use Rattle.soda.specs.Multisets.{SatM}
+use Rattle.soda.specs.Traces.{Event, business, addUA, rmUA, Trace, upd, businessOnly, users as usersOf, actedBelow, noted, SatT}
 use Rattle.soda.specs.Csp.{Accepts}
 use Rattle.soda.specs.Processes.{Symbol, event, done, body, SOD, unfinished, finished}
-use Rattle.soda.proofs.Bools.{never, not-so, so-eq, eq-so, and-split, and-join, lt-so, so-lt}
-use Rattle.soda.proofs.Accuracy.{possible-is-process, satisfied-is-trace, satisfied-is-multiset, satisfied-is-users, theorem-1}
+use Rattle.soda.proofs.Bools.{never, not-so, and-join, lt-so, so-lt}
+use Rattle.soda.proofs.Accuracy.{possible-is-process, satisfied-is-trace, satisfied-is-multiset, theorem-1}
 use Rattle.soda.proofs.Endings.{nothing-follows-done}
 use Rattle.policy.specs.Refusals.{code}
-use Rattle.policy.specs.Words.{decode}
-use Rattle.workspace.specs.Workspace.{termOf}
 use Rattle.workspace.specs.declared.Action.{Action as Taken}
 use Rattle.monitor.specs.declared.Instance.{Instance}
 use Rattle.monitor.specs.declared.Event.{Event as Request}
 use Rattle.monitor.specs.declared.Event.the-variants.{Acts, Grants, Revokes, Closes, Malformed}
-use Rattle.monitor.specs.declared.Status.{Status}
 use Rattle.monitor.specs.declared.Status.the-variants.{Complete, Open}
 use Rattle.monitor.specs.Statuses.{statusRefusals, statusOf, letter}
 use Rattle.monitor.specs.Instances.{openCode, fresh, takenOf, term}
 use Rattle.monitor.specs.Events.{readEvent, isMalformed, satisfies, isPossible, tried, ownRefusals, eventRefusals, outcome}
 use Rattle.claims.specs.Runs.{Rooms, Long, from, grown, history, symbolOf}
-use Rattle.claims.specs.Accuracy.{Run, policy, final, accepted, traceOf, EventIsProcess, CloseIsTrace, CloseIsMultiset, TestIsMultiset}
-use Rattle.claims.proofs.Openings.{Passed, passed}
-use Rattle.claims.proofs.Validity.{well-formed}
-use Rattle.claims.proofs.Growth.{known, judged-known, noted-append, below-append, Declared, declared, moved, isClose, event-code, Follows, start, φ, formed, same-term, known-tried, next}
+use Rattle.claims.specs.Accuracy.{Run, policy, final, accepted, traceOf, EventIsProcess, CloseIsTrace, CloseIsMultiset}
+use Rattle.monitor.proofs.Formed.{is-formed}
+use Rattle.monitor.proofs.Reading.{Declared, declared}
+use Rattle.claims.proofs.Growth.{known, judged-known, noted-append, below-append, moved, isClose, event-code, Follows, start, φ, formed, same-term, known-tried, next}
 
 -- a trace, with done behind it where it is closed
 abbrev pub ended : Trace → Bool → List Symbol
@@ -53,10 +49,10 @@ ended-next t false (Revokes u r) w true h = sym (unfinished-append t (rmUA u r �
 ended-next t false Closes w true h = ap finished (sym (append-nil t))
 ended-next t false Malformed w true h = append-nil (unfinished t) ∙ ap unfinished (sym (append-nil t))
 
-module _ (users roles : ℕ) (words rows : List ℕ) (p : Passed users roles words rows) where
+module _ (users roles : ℕ) (words rows : List ℕ) (p : openCode users roles words rows ≡ 0) where
   -- a closed instance takes nothing
   closed-code : (i : Instance) (t : Trace) (c : Bool) → Follows users roles words rows p i t c → (e : Request) (n : ℕ) → 8192 ≤ n → c ≡ true → code (eventRefusals i e n) ≡ 10
-  closed-code i t c f e n l o = event-code i e n l (well-formed i (f .isValid)) ∙ ap (λ b. cond b 10 (cond (isMalformed e) 7 (code (ownRefusals i e)))) (f .same-mark ∙ o)
+  closed-code i t c f e n l o = event-code i e n l (is-formed i (f .isFormed)) ∙ ap (λ b. cond b 10 (cond (isMalformed e) 7 (code (ownRefusals i e)))) (f .same-mark ∙ o)
 
   -- where a run leads
   pub record Reached (i : Instance) (h : List Symbol) : Type 0 where
@@ -81,9 +77,9 @@ module _ (users roles : ℕ) (words rows : List ℕ) (p : Passed users roles wor
       (next users roles words rows p i t c f q w (length (rooms 0)) (long 0) d) (h ++ x) y)
 
 -- where the run of an opening leads
-reached : (r : Run) → Reached (r .users) (r .roles) (r .words) (r .rows) (passed (r .users) (r .roles) (r .words) (r .rows) (r .opened)) (final r) (accepted r)
+reached : (r : Run) → Reached (r .users) (r .roles) (r .words) (r .rows) (r .opened) (final r) (accepted r)
 reached r =
-    let p = passed (r .users) (r .roles) (r .words) (r .rows) (r .opened) in
+    let p = r .opened in
     reach (r .users) (r .roles) (r .words) (r .rows) p (r .events) (r .rooms) (r .long) (fresh (r .users) (r .roles) (r .words) (r .rows)) [] false
     (start (r .users) (r .roles) (r .words) (r .rows) p) [] refl
 
@@ -116,7 +112,7 @@ eq-iff P e = (λ x. subst P e x, λ y. subst P (sym e) y)
 so-iff : {a b : Bool} → a ≡ b → So a ↔ So b
 so-iff e = (λ x. sym e ∙ x, λ y. e ∙ y)
 
-module _ (users roles : ℕ) (words rows : List ℕ) (p : Passed users roles words rows) (i : Instance) (t : Trace) (f : Follows users roles words rows p i t false) where
+module _ (users roles : ℕ) (words rows : List ℕ) (p : openCode users roles words rows ≡ 0) (i : Instance) (t : Trace) (f : Follows users roles words rows p i t false) where
   abbrev ψ : Term
   ψ = φ users roles words rows p
 
@@ -171,8 +167,8 @@ pub event-is-process : EventIsProcess
 unfolding outcome
 event-is-process r w room l m n = go (g .mark) refl (g .follows)
   where
-    p : Passed (r .users) (r .roles) (r .words) (r .rows)
-    p = passed (r .users) (r .roles) (r .words) (r .rows) (r .opened)
+    p : openCode (r .users) (r .roles) (r .words) (r .rows) ≡ 0
+    p = r .opened
 
     g : Reached (r .users) (r .roles) (r .words) (r .rows) p (final r) (accepted r)
     g = reached r
@@ -191,7 +187,7 @@ event-is-process r w room l m n = go (g .mark) refl (g .follows)
     k = code (eventRefusals i (readEvent (i .users) (i .roles) w) (length room))
 
     is-code : k ≡ cond (i .closed) 10 (cond (isMalformed e) 7 (code (ownRefusals i e)))
-    is-code = ap (λ x. code (eventRefusals i x (length room))) same-event ∙ event-code i e (length room) l (well-formed i (g .follows .isValid))
+    is-code = ap (λ x. code (eventRefusals i x (length room))) same-event ∙ event-code i e (length room) l (is-formed i (g .follows .isFormed))
 
     go : (c : Bool) → g .mark ≡ c → Follows (r .users) (r .roles) (r .words) (r .rows) p i (g .trace) (g .mark)
         → (k ≡ 0) ↔ Accepts body (SOD (policy r) (r .users) (r .rows)) (accepted r ++ symbolOf e w)
@@ -218,14 +214,14 @@ event-is-process r w room l m n = go (g .mark) refl (g .follows)
         open-code = is-code ∙ ap (λ b. cond b 10 (cond (isMalformed e) 7 (code (ownRefusals i e)))) (f .same-mark ∙ o)
 
 module _ (r : Run) (w : ℕ) (room : List ℕ) (l : 8192 ≤ length room) (q : readEvent (r .users) (r .roles) w ≡ Closes) (o : final r .closed ≡ false) where
-  closing : Reached (r .users) (r .roles) (r .words) (r .rows) (passed (r .users) (r .roles) (r .words) (r .rows) (r .opened)) (final r) (accepted r)
+  closing : Reached (r .users) (r .roles) (r .words) (r .rows) (r .opened) (final r) (accepted r)
   closing = reached r
 
   still-open : closing .mark ≡ false
   still-open = sym (closing .follows .same-mark) ∙ o
 
-  opened : Follows (r .users) (r .roles) (r .words) (r .rows) (passed (r .users) (r .roles) (r .words) (r .rows) (r .opened)) (final r) (closing .trace) false
-  opened = subst (Follows (r .users) (r .roles) (r .words) (r .rows) (passed (r .users) (r .roles) (r .words) (r .rows) (r .opened)) (final r) (closing .trace)) still-open (closing .follows)
+  opened : Follows (r .users) (r .roles) (r .words) (r .rows) (r .opened) (final r) (closing .trace) false
+  opened = subst (Follows (r .users) (r .roles) (r .words) (r .rows) (r .opened) (final r) (closing .trace)) still-open (closing .follows)
 
   trace-unfinished : (t : Trace) → traceOf (unfinished t) ≡ t
   trace-unfinished [] = refl
@@ -235,13 +231,13 @@ module _ (r : Run) (w : ℕ) (room : List ℕ) (l : 8192 ≤ length room) (q : r
   same-trace = ap traceOf (closing .is-run ∙ ap (ended (closing .trace)) still-open) ∙ trace-unfinished (closing .trace)
 
   is-satisfied : satisfies (term (final r)) (takenOf (final r)) ≡ satisfied (policy r) 0 (noted (policy r) (r .rows) (closing .trace))
-  is-satisfied = satisfied-taken (r .users) (r .roles) (r .words) (r .rows) (passed (r .users) (r .roles) (r .words) (r .rows) (r .opened)) (final r) (closing .trace) opened
+  is-satisfied = satisfied-taken (r .users) (r .roles) (r .words) (r .rows) (r .opened) (final r) (closing .trace) opened
 
   close-code : outcome (final r) w room .code ≡ cond (not (satisfies (term (final r)) (takenOf (final r)))) 11 0
   unfolding outcome
   close-code =
       ap (λ x. code (eventRefusals (final r) x (length room))) (ap₂ (λ x y. readEvent x y w) (closing .follows .same-users) (closing .follows .same-roles) ∙ q)
-      ∙ event-code (final r) Closes (length room) l (well-formed (final r) (closing .follows .isValid))
+      ∙ event-code (final r) Closes (length room) l (is-formed (final r) (closing .follows .isFormed))
       ∙ ap (λ b. cond b 10 (cond (not (satisfies (term (final r)) (takenOf (final r)))) 11 0)) o
 
   close-satisfied : (outcome (final r) w room .code ≡ 0) ↔ So (satisfied (policy r) 0 (noted (policy r) (r .rows) (closing .trace)))
@@ -253,10 +249,10 @@ module _ (r : Run) (w : ℕ) (room : List ℕ) (l : 8192 ≤ length room) (q : r
   status-satisfied = subst (λ s. (s ≡ Complete) ↔ So (satisfied (policy r) 0 (noted (policy r) (r .rows) (closing .trace)))) (sym is-status) (iff-trans (complete-iff (satisfies (term (final r)) (takenOf (final r)))) (so-iff is-satisfied))
     where
       is-status : statusOf (final r) room ≡ cond (satisfies (term (final r)) (takenOf (final r))) Complete Open
-      is-status = rw (not-so (ltb (length room) 8192) (λ x. let k = so-lt (length room) 8192 x in omega arith), well-formed (final r) (closing .follows .isValid), o)
+      is-status = rw (not-so (ltb (length room) 8192) (λ x. let k = so-lt (length room) 8192 x in omega arith), is-formed (final r) (closing .follows .isFormed), o)
 
   formed-policy : So (wellFormed (policy r))
-  formed-policy = formed (r .users) (r .roles) (r .words) (r .rows) (passed (r .users) (r .roles) (r .words) (r .rows) (r .opened))
+  formed-policy = formed (r .users) (r .roles) (r .words) (r .rows) (r .opened)
 
 pub close-is-trace : CloseIsTrace
 close-is-trace r w room l q o = subst (λ t. ((outcome (final r) w room .code ≡ 0) ↔ SatT (r .rows) t (policy r)) × ((statusOf (final r) room ≡ Complete) ↔ SatT (r .rows) t (policy r)))

@@ -1,14 +1,13 @@
 -- Two instances with related policies that keep step with one trace give the next event the same number and have the same status.
 use mathlib.Core.Path.{_≡_, refl, sym, _∙_, ap, ap₂, subst, subst₂}
-use mathlib.Core.Bool.{Bool, true, false, So, not, _&&_, _||_, cond}
-use mathlib.Core.List.{List, [], _∷_, _++_, map}
-use Prim.Native.Nat.{ℕ, _+_, _%_, _^_, _≤_}
+use mathlib.Core.Bool.{Bool, true, false, So, not, _||_, cond}
+use mathlib.Core.List.{List, [], _∷_, _++_}
+use Prim.Native.Nat.{ℕ, _+_, _≤_}
 use native.Mathlib.Omega.{arith}
 use lib.Dec.{leb, ltb, eqb}
 use lib.ListN.{length, length-map}
 use lib.Seq.{length-take-le}
-use Rattle.soda.specs.Terms.{Term, wellFormed}
-use Rattle.soda.specs.Tables.{Action, Execution, satisfied, possible, judge, note}
+use Rattle.soda.specs.Tables.{Action, Execution, satisfied, possible, note}
 use Rattle.soda.specs.Traces.{business, Trace, executed, noted}
 use Rattle.soda.specs.Steps.{Steps}
 use Rattle.soda.proofs.Bools.{not-so, so-lt}
@@ -20,18 +19,17 @@ use Rattle.workspace.specs.Workspace.{termOf}
 use Rattle.monitor.specs.declared.Instance.{Instance}
 use Rattle.monitor.specs.declared.Event.{Event as Request}
 use Rattle.monitor.specs.declared.Event.the-variants.{Acts, Grants, Revokes, Closes, Malformed}
-use Rattle.monitor.specs.declared.Status.{Status}
 use Rattle.monitor.specs.declared.Status.the-variants.{Closed, Complete, Open}
-use Rattle.monitor.specs.Instances.{takenOf, term, wellFormed as wellFormedInstance}
+use Rattle.monitor.specs.Instances.{openCode, takenOf, term, wellFormed as wellFormedInstance}
 use Rattle.monitor.specs.Events.{readEvent, isMalformed, satisfies, isPossible, tried, ownRefusals, eventRefusals, outcome}
 use Rattle.monitor.specs.Statuses.{standing, statusRefusals, statusOf}
-use Rattle.claims.specs.Runs.{Rooms, Long, from, Line, lines}
-use Rattle.claims.proofs.Openings.{Passed}
-use Rattle.claims.proofs.Validity.{well-formed}
-use Rattle.claims.proofs.Growth.{known, judged-known, Declared, declared, moved, isClose, event-code, Follows, start, φ, formed, same-term, known-tried, next}
+use Rattle.claims.specs.Runs.{Rooms, Long, from, lines}
+use Rattle.monitor.proofs.Formed.{is-formed}
+use Rattle.monitor.proofs.Reading.{Declared, declared}
+use Rattle.claims.proofs.Growth.{known, judged-known, moved, isClose, event-code, Follows, formed, same-term, known-tried, next}
 
 -- the policies of two openings over the same counts and grants
-module _ (users roles : ℕ) (v w rows : List ℕ) (p : Passed users roles v rows) (q : Passed users roles w rows)
+module _ (users roles : ℕ) (v w rows : List ℕ) (p : openCode users roles v rows ≡ 0) (q : openCode users roles w rows ≡ 0)
     (related : Steps (termOf (decode v)) (termOf (decode w))) where
   -- both columns are the same functions of what the trace's actions mean
   same-possible : (t : Trace) → possible (termOf (decode v)) 0 (noted (termOf (decode v)) rows t) ≡ possible (termOf (decode w)) 0 (noted (termOf (decode w)) rows t)
@@ -49,15 +47,15 @@ module _ (users roles : ℕ) (v w rows : List ℕ) (p : Passed users roles v row
     same-count : i .taken ≡ j .taken
     same-count = count v p i f ∙ sym (count w q j g)
       where
-        count : (x : List ℕ) (s : Passed users roles x rows) (k : Instance) → Follows users roles x rows s k t c → k .taken ≡ length (executed rows t)
+        count : (x : List ℕ) (s : openCode users roles x rows ≡ 0) (k : Instance) → Follows users roles x rows s k t c → k .taken ≡ length (executed rows t)
         count x s k h =
-            sym (length-take-le (k .taken) (k .actions) (omega (arith, h .sized .actions-size, h .isValid .taken-bound)))
+            sym (length-take-le (k .taken) (k .actions) (omega (arith, h .places, h .isFormed .taken-most)))
             ∙ sym (length-map (takenOf k) known) ∙ ap (λ (l : List Action). length l) (h .same-taken) ∙ length-map (executed rows t) (note (termOf (decode x)))
 
     same-trial : (u : ℕ) → Declared users roles (Acts u) → isPossible (term i) (tried i u) ≡ isPossible (term j) (tried j u)
     same-trial u l = trial v p i f ∙ same-possible (t ++ (business u 0 ∷ [])) ∙ sym (trial w q j g)
       where
-        trial : (x : List ℕ) (s : Passed users roles x rows) (k : Instance) → Follows users roles x rows s k t c
+        trial : (x : List ℕ) (s : openCode users roles x rows ≡ 0) (k : Instance) → Follows users roles x rows s k t c
             → isPossible (term k) (tried k u) ≡ possible (termOf (decode x)) 0 (noted (termOf (decode x)) rows (t ++ (business u 0 ∷ [])))
         trial x s k h = ap (λ y. isPossible y (tried k u)) (same-term users roles x rows s k t c h) ∙ judged-known true (termOf (decode x)) (tried k u)
             ∙ ap (possible (termOf (decode x)) 0) (known-tried users roles x rows s k t c h u 0 l)
@@ -65,7 +63,7 @@ module _ (users roles : ℕ) (v w rows : List ℕ) (p : Passed users roles v row
     same-close : satisfies (term i) (takenOf i) ≡ satisfies (term j) (takenOf j)
     same-close = taken v p i f ∙ same-satisfied t ∙ sym (taken w q j g)
       where
-        taken : (x : List ℕ) (s : Passed users roles x rows) (k : Instance) → Follows users roles x rows s k t c
+        taken : (x : List ℕ) (s : openCode users roles x rows ≡ 0) (k : Instance) → Follows users roles x rows s k t c
             → satisfies (term k) (takenOf k) ≡ satisfied (termOf (decode x)) 0 (noted (termOf (decode x)) rows t)
         taken x s k h = ap (λ y. satisfies y (takenOf k)) (same-term users roles x rows s k t c h) ∙ judged-known false (termOf (decode x)) (takenOf k)
             ∙ ap (satisfied (termOf (decode x)) 0) (h .same-taken)
@@ -79,13 +77,13 @@ module _ (users roles : ℕ) (v w rows : List ℕ) (p : Passed users roles v row
 
     pub same-code : (e : Request) → Declared users roles e → (m n : ℕ) → 8192 ≤ m → 8192 ≤ n → code (eventRefusals i e m) ≡ code (eventRefusals j e n)
     same-code e d m n x y =
-        event-code i e m x (well-formed i (f .isValid)) ∙ ap₂ (λ b k. cond b 10 (cond (isMalformed e) 7 k)) (f .same-mark ∙ sym (g .same-mark)) (same-own e d)
-        ∙ sym (event-code j e n y (well-formed j (g .isValid)))
+        event-code i e m x (is-formed i (f .isFormed)) ∙ ap₂ (λ b k. cond b 10 (cond (isMalformed e) 7 k)) (f .same-mark ∙ sym (g .same-mark)) (same-own e d)
+        ∙ sym (event-code j e n y (is-formed j (g .isFormed)))
 
     pub same-status : (x y : List ℕ) → 8192 ≤ length x → 8192 ≤ length y → statusOf i x ≡ statusOf j y
     unfolding statusOf statusRefusals
-    same-status x y a b = long-status i x a (well-formed i (f .isValid)) ∙ ap₂ (λ c s. cond c Closed (cond s Complete Open)) (f .same-mark ∙ sym (g .same-mark)) same-close
-        ∙ sym (long-status j y b (well-formed j (g .isValid)))
+    same-status x y a b = long-status i x a (is-formed i (f .isFormed)) ∙ ap₂ (λ c s. cond c Closed (cond s Complete Open)) (f .same-mark ∙ sym (g .same-mark)) same-close
+        ∙ sym (long-status j y b (is-formed j (g .isFormed)))
       where
         long-status : (k : Instance) (room : List ℕ) → 8192 ≤ length room → So (wellFormedInstance k) → statusOf k room ≡ standing k
         long-status k room l h = rw (not-so (ltb (length room) 8192) (λ z. let m = so-lt (length room) 8192 z in omega arith), h)

@@ -1,35 +1,38 @@
 -- An instance grown by events keeps step with a trace: its rows are what the trace makes of the grants, its taken actions are what
 -- the trace's actions note, and they are possible.
 use mathlib.Core.Path.{_≡_, refl, sym, _∙_, ap, ap₂, subst}
-use mathlib.Core.Bool.{Bool, true, false, So, not, _&&_, _||_, cond, or-true, or-false}
-use mathlib.Core.List.{List, [], _∷_, _++_, map, map-append, append-nil, append-assoc}
+use mathlib.Core.Bool.{Bool, true, false, So, not, _||_, cond, or-true, or-false}
+use mathlib.Core.List.{List, [], _∷_, _++_, map, map-append, append-nil}
 use mathlib.Core.Option.{Option, some, none}
-use Prim.Native.Nat.{ℕ, _+_, _/_, _%_, _^_, _≤_, _<_}
+use Prim.Native.Nat.{ℕ, _-_, _%_, _^_, _≤_, _<_}
 use native.Mathlib.Omega.{arith}
 use lib.Dec.{leb, ltb, eqb}
-use lib.ListN.{length, getD, set as put, length-map}
+use lib.ListN.{length, getD, take, set as put, replicate, length-set}
+use lib.Seq.{take-append-seam, take-set-lt, getD-take}
+use borrow.Author.Tests.{leb-false}
 use Rattle.soda.specs.Bits.{bit, setBit, clearBit}
-use Rattle.soda.specs.Terms.{Op, Term, everyone, role, set, ¬ᵗ_, _⁺, bin, wellFormed, size}
+use Rattle.soda.specs.Terms.{Term, wellFormed}
 use Rattle.soda.specs.Roles.{UA, roles, grant, revoke}
-use Rattle.soda.specs.Tables.{bitTable, Action, Execution, judge, note, metBits}
-use Rattle.soda.specs.Traces.{Event, business, addUA, rmUA, Trace, upd, after, actedBelow, execution, executed, noted}
-use Rattle.soda.specs.Processes.{Symbol, event, done, unfinished, finished}
-use Rattle.soda.proofs.Bools.{never, not-so, and-split, and-join, so-lt, lt-so, so-eq, eq-so, no-lt}
+use Rattle.soda.specs.Tables.{bitTable, Action, note, metBits}
+use Rattle.soda.specs.Traces.{business, addUA, rmUA, Trace, upd, after, actedBelow, execution, executed, noted}
+use Rattle.soda.proofs.Bools.{never, not-so, and-split, and-join, so-lt, lt-so}
 use Rattle.soda.proofs.Tables.{bitTable-map, empty-set}
 use Rattle.soda.proofs.Traces.{executed-append}
 use Rattle.policy.specs.Refusals.{code}
 use Rattle.policy.specs.Words.{decode}
 use Rattle.policy.specs.Reading.{lengthOk, isTerm, isFormed, metIn, metOf}
+use Rattle.policy.specs.Shapes.{padded}
 use Rattle.workspace.specs.Workspace.{termOf}
 use Rattle.workspace.specs.declared.Action.{Action as Taken}
 use Rattle.monitor.specs.declared.Instance.{Instance}
 use Rattle.monitor.specs.declared.Event.{Event as Request}
 use Rattle.monitor.specs.declared.Event.the-variants.{Acts, Grants, Revokes, Closes, Malformed}
 use Rattle.monitor.specs.Instances.{openCode, fresh, policyOf, rowsOf, takenOf, term, notedFor, withAction, withGrant, withoutGrant, asClosed, wellFormed as wellFormedInstance}
-use Rattle.monitor.specs.Events.{eventOf, readEvent, isMalformed, satisfies, isPossible, tried, ownRefusals, eventRefusals, applied, outcome}
-use Rattle.claims.specs.Runs.{symbolOf}
-use Rattle.claims.proofs.Openings.{Passed, passed}
-use Rattle.claims.proofs.Validity.{Sized, Valid, valid, well-formed, fresh-sized, fresh-valid, fresh-policy, fresh-rows, met-of, taken-next, action-valid, rows-put, row-at, row-valid, grant-below, revoke-below, close-valid, action-sized, row-sized, close-sized, below-of}
+use Rattle.monitor.specs.Events.{isMalformed, satisfies, isPossible, tried, ownRefusals, eventRefusals, applied}
+use Rattle.monitor.proofs.Reading.{Declared}
+use Rattle.monitor.proofs.Formed.{Formed, formed as is-well-formed, is-formed, one-each, opens-read, opens-rows}
+use Rattle.monitor.proofs.Fillable.{taken-more}
+use Rattle.monitor.proofs.Kept.{set-below, clear-below, row-below, row-formed, action-formed, opened-is-well-formed}
 
 -- ── taken actions as the algebra has them ──
 abbrev pub known : Taken → Action
@@ -55,32 +58,6 @@ below-append n (addUA u r ∷ s) t h k = below-append n s t h k
 below-append n (rmUA u r ∷ s) t h k = below-append n s t h k
 
 -- ── events ──
--- what a word read names is declared
-abbrev pub Declared : ℕ → ℕ → Request → Type 0
-Declared users roles (Acts u) = u < users
-Declared users roles (Grants u r) = (u < users) × (r < roles)
-Declared users roles (Revokes u r) = (u < users) × (r < roles)
-Declared users roles Closes = Unit
-Declared users roles Malformed = Unit
-
-by-cond {ℓ} : {A : Type 0} (P : A → Type ℓ) (b : Bool) {x y : A} → (So b → P x) → P y → P (cond b x y)
-by-cond P true f g = f refl
-by-cond P false f g = g
-
-pub declared : (users roles w : ℕ) → Declared users roles (readEvent users roles w)
-unfolding readEvent
-declared users roles w = by-cond (Declared users roles) (eqb (w / 2 ^ 16 % 2 ^ 8) 0) (λ z. go (w / 2 ^ 24) (w / 2 ^ 8 % 2 ^ 8) (w % 2 ^ 8)) tt
-  where
-    pair : (u r : ℕ) → So (ltb u users && ltb r roles) → (u < users) × (r < roles)
-    pair u r h = let k = and-split (ltb u users) (ltb r roles) h in (so-lt u users (k .0), so-lt r roles (k .1))
-
-    go : (kind user low : ℕ) → Declared users roles (eventOf users roles kind user low)
-    go kind user low =
-        by-cond (Declared users roles) (eqb kind 1) (λ z. by-cond (Declared users roles) (ltb user users) (so-lt user users) tt)
-        (by-cond (Declared users roles) (eqb kind 2) (λ z. by-cond (Declared users roles) (ltb user users && ltb low roles) (pair user low) tt)
-        (by-cond (Declared users roles) (eqb kind 3) (λ z. by-cond (Declared users roles) (ltb user users && ltb low roles) (pair user low) tt)
-        (by-cond (Declared users roles) (eqb kind 4) (λ z. by-cond (Declared users roles) (eqb user 0 && eqb low 0) (λ y. tt) tt) tt)))
-
 -- the trace event of an accepted request; a close is none
 abbrev pub moved : Request → ℕ → Trace
 moved (Acts u) w = business u (w % 2 ^ 8) ∷ []
@@ -105,26 +82,46 @@ event-code i e n l h = rw (short, h)
     short : ltb n 8192 ≡ false
     short = not-so (ltb n 8192) (λ x. let k = so-lt n 8192 x in omega arith)
 
+pub met-of : (words : List ℕ) (u h : ℕ) → So (lengthOk (length words)) → metOf words u h ≡ metIn (decode words) u h
+unfolding metOf
+met-of words u h l = rw l
+
+-- a declared user's row
+row-at : (i : Instance) (u : ℕ) → u < i .users → getD (i .«user_roles») u 0 ≡ getD (rowsOf i) u 0
+row-at i u l = sym (getD-take (i .users) (i .«user_roles») u 0 l)
+
+-- the mark plays no part in an instance's being well formed
+closed-formed : (i : Instance) → Formed i → Formed (asClosed i)
+closed-formed i f = record {
+  words-most = f .words-most;
+  opened = f .opened;
+  taken-most = f .taken-most;
+  actions-ok = f .actions-ok;
+  words-zero = f .words-zero;
+  rows-zero = f .rows-zero;
+  places-idle = f .places-idle;
+}
+
 -- ── the instance of a run ──
-module _ (users roles : ℕ) (words rows : List ℕ) (p : Passed users roles words rows) where
+module _ (users roles : ℕ) (words rows : List ℕ) (p : openCode users roles words rows ≡ 0) where
   -- the policy
   abbrev pub φ : Term
   φ = termOf (decode words)
 
   pub decoded : decode words ≡ some φ
-  decoded = go (decode words) (p .isOne)
+  decoded = go (decode words) (opens-read users roles words rows p .term)
     where
       go : (o : Option Term) → So (isTerm o) → o ≡ some (termOf o)
       go none h = never h
       go (some ψ) h = refl
 
   pub formed : So (wellFormed φ)
-  formed = subst (λ o. So (isFormed o)) decoded (p .formed)
+  formed = subst (λ o. So (isFormed o)) decoded (opens-read users roles words rows p .formed)
 
   -- t is the trace of the events that were accepted, c whether a close was
   pub record Follows (i : Instance) (t : Trace) (c : Bool) : Type 0 where
-    pub sized : Sized i
-    pub isValid : Valid i
+    pub places : length (i .actions) ≡ 12
+    pub isFormed : Formed i
     pub same-users : i .users ≡ users
     pub same-roles : i .roles ≡ roles
     pub same-words : policyOf i ≡ words
@@ -137,12 +134,12 @@ module _ (users roles : ℕ) (words rows : List ℕ) (p : Passed users roles wor
   pub start : Follows (fresh users roles words rows) [] false
   unfolding fresh
   start = record {
-    sized = fresh-sized users roles words rows p;
-    isValid = valid (fresh users roles words rows) (fresh-valid users roles words rows p);
+    places = refl;
+    isFormed = is-well-formed (fresh users roles words rows) (opened-is-well-formed users roles words rows p);
     same-users = refl;
     same-roles = refl;
-    same-words = fresh-policy users roles words rows p;
-    same-rows = fresh-rows users roles words rows p;
+    same-words = take-append-seam words (replicate (31 - length words) 0);
+    same-rows = ap (λ n. take n (padded 16 rows)) (sym (one-each users roles rows (opens-rows users roles words rows p))) ∙ take-append-seam rows (replicate (16 - length rows) 0);
     same-taken = refl;
     same-mark = refl;
     below = refl;
@@ -158,10 +155,10 @@ module _ (users roles : ℕ) (words rows : List ℕ) (p : Passed users roles wor
     known-noted u l = ap (λ m. record { user = u; met = m }) met
       where
         held : getD (i .«user_roles») u 0 ≡ getD (upd rows t) u 0
-        held = row-at i (f .sized) (f .isValid) u (subst (λ n. u < n) (sym (f .same-users)) l) ∙ ap (λ r. getD r u 0) (f .same-rows)
+        held = row-at i u (subst (λ n. u < n) (sym (f .same-users)) l) ∙ ap (λ r. getD r u 0) (f .same-rows)
 
         met : metOf (policyOf i) u (getD (i .«user_roles») u 0) ≡ metBits φ u (getD (upd rows t) u 0)
-        met = ap₂ (λ v h. metOf v u h) (f .same-words) held ∙ met-of words u (getD (upd rows t) u 0) (p .long)
+        met = ap₂ (λ v h. metOf v u h) (f .same-words) held ∙ met-of words u (getD (upd rows t) u 0) (opens-read users roles words rows p .long)
             ∙ ap (λ o. metIn o u (getD (upd rows t) u 0)) decoded
 
     -- the actions that a trial judges
@@ -173,10 +170,10 @@ module _ (users roles : ℕ) (words rows : List ℕ) (p : Passed users roles wor
     acted : (u a : ℕ) → u < users → i .taken < 12 → So (isPossible (term i) (tried i u)) → Follows (withAction i (notedFor i u)) (t ++ (business u a ∷ [])) c
     acted u a l k h =
         let m : u < i .users = subst (λ n. u < n) (sym (f .same-users)) l in
-        let e : takenOf (withAction i (notedFor i u)) ≡ tried i u = taken-next i (f .sized) (f .isValid) (notedFor i u) k in
+        let e : takenOf (withAction i (notedFor i u)) ≡ tried i u = taken-more i (notedFor i u) (omega (arith, f .places)) in
         record {
-          sized = action-sized i (f .sized) (f .isValid) (notedFor i u);
-          isValid = action-valid i (f .sized) (f .isValid) u m k;
+          places = length-set (i .actions) (i .taken) (notedFor i u) ∙ f .places;
+          isFormed = action-formed i (f .isFormed) u m k (f .places);
           same-users = f .same-users;
           same-roles = f .same-roles;
           same-words = f .same-words;
@@ -193,12 +190,12 @@ module _ (users roles : ℕ) (words rows : List ℕ) (p : Passed users roles wor
         let n : r < i .roles = subst (λ x. r < x) (sym (f .same-roles)) k in
         let h = setBit r (getD (i .«user_roles») u 0) in
         record {
-          sized = row-sized i (f .sized) (f .isValid) u h;
-          isValid = row-valid i (f .sized) (f .isValid) u h m (grant-below i (f .sized) (f .isValid) u r m n);
+          places = f .places;
+          isFormed = row-formed i (f .isFormed) u h m (set-below r (i .roles) (getD (i .«user_roles») u 0) n (row-below i (f .isFormed) u m));
           same-users = f .same-users;
           same-roles = f .same-roles;
           same-words = f .same-words;
-          same-rows = rows-put i (f .sized) (f .isValid) u h m ∙ ap (λ x. put (rowsOf i) u (setBit r x)) (row-at i (f .sized) (f .isValid) u m)
+          same-rows = take-set-lt (i .users) (i .«user_roles») u h m ∙ ap (λ x. put (rowsOf i) u (setBit r x)) (row-at i u m)
               ∙ ap (λ x. grant x u r) (f .same-rows) ∙ sym (upd-append t (addUA u r ∷ []) rows);
           same-taken = f .same-taken ∙ sym (append-nil (noted φ rows t)) ∙ sym (noted-append φ t (addUA u r ∷ []) rows);
           same-mark = f .same-mark;
@@ -211,12 +208,12 @@ module _ (users roles : ℕ) (words rows : List ℕ) (p : Passed users roles wor
         let m : u < i .users = subst (λ n. u < n) (sym (f .same-users)) l in
         let h = clearBit r (getD (i .«user_roles») u 0) in
         record {
-          sized = row-sized i (f .sized) (f .isValid) u h;
-          isValid = row-valid i (f .sized) (f .isValid) u h m (revoke-below i (f .sized) (f .isValid) u r m);
+          places = f .places;
+          isFormed = row-formed i (f .isFormed) u h m (clear-below r (i .roles) (getD (i .«user_roles») u 0) (row-below i (f .isFormed) u m));
           same-users = f .same-users;
           same-roles = f .same-roles;
           same-words = f .same-words;
-          same-rows = rows-put i (f .sized) (f .isValid) u h m ∙ ap (λ x. put (rowsOf i) u (clearBit r x)) (row-at i (f .sized) (f .isValid) u m)
+          same-rows = take-set-lt (i .users) (i .«user_roles») u h m ∙ ap (λ x. put (rowsOf i) u (clearBit r x)) (row-at i u m)
               ∙ ap (λ x. revoke x u r) (f .same-rows) ∙ sym (upd-append t (rmUA u r ∷ []) rows);
           same-taken = f .same-taken ∙ sym (append-nil (noted φ rows t)) ∙ sym (noted-append φ t (rmUA u r ∷ []) rows);
           same-mark = f .same-mark;
@@ -226,8 +223,8 @@ module _ (users roles : ℕ) (words rows : List ℕ) (p : Passed users roles wor
 
     closed : Follows (asClosed i) (t ++ []) true
     closed = subst (λ s. Follows (asClosed i) s true) (sym (append-nil t)) (record {
-      sized = close-sized i (f .sized) (f .isValid);
-      isValid = close-valid i (f .sized) (f .isValid);
+      places = f .places;
+      isFormed = closed-formed i (f .isFormed);
       same-users = f .same-users;
       same-roles = f .same-roles;
       same-words = f .same-words;
@@ -254,7 +251,7 @@ module _ (users roles : ℕ) (words rows : List ℕ) (p : Passed users roles wor
       where
         go : (a : Bool) → leb 12 (i .taken) ≡ a → (b : Bool) → isPossible (term i) (tried i u) ≡ b → Next (Acts u) w (cond a 8 (cond (not b) 9 0))
         go true x b y = unmoved
-        go false x true y = unmarked (acted u (w % 2 ^ 8) l (below-of 12 (i .taken) x) y)
+        go false x true y = unmarked (acted u (w % 2 ^ 8) l (leb-false 12 (i .taken) x) y)
         go false x false y = unmoved
     open-next (Grants u r) w l = unmarked (granted u r (l .0) (l .1))
     open-next (Revokes u r) w l = unmarked (revoked u r (l .0))
@@ -266,7 +263,7 @@ module _ (users roles : ℕ) (words rows : List ℕ) (p : Passed users roles wor
     open-next Malformed w l = unmoved
 
     pub next : (e : Request) (w : ℕ) (n : ℕ) → 8192 ≤ n → Declared users roles e → Next e w (code (eventRefusals i e n))
-    next e w n l d = subst (Next e w) (sym (event-code i e n l (well-formed i (f .isValid)))) (go c refl)
+    next e w n l d = subst (Next e w) (sym (event-code i e n l (is-formed i (f .isFormed)))) (go c refl)
       where
         go : (b : Bool) → c ≡ b → Next e w (cond (i .closed) 10 (cond (isMalformed e) 7 (code (ownRefusals i e))))
         go true o = subst (λ b. Next e w (cond b 10 (cond (isMalformed e) 7 (code (ownRefusals i e))))) (sym (f .same-mark ∙ o)) unmoved

@@ -2,7 +2,7 @@
 -- Statements only, about the definitions that the contracts of `open`, `event`, `status` and `satisfies` cite.
 use mathlib.Core.Path.{_≡_}
 use mathlib.Core.Logic.{_↔_}
-use mathlib.Core.Bool.{Bool, false, So}
+use mathlib.Core.Bool.{false, So}
 use mathlib.Core.List.{List, [], _∷_, _++_}
 use Prim.Native.Nat.{ℕ, _≤_}
 use lib.ListN.{length}

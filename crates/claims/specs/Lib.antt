@@ -1,4 +1,4 @@
--- Runs of an instance.
 pub mod Runs
--- Demand 2.
 pub mod Accuracy
+pub mod EqualForms
+pub mod Examples

@@ -1,5 +1,5 @@
 -- Runs: an instance as its opening returned it, then any list of 32-bit words as events, each with whatever workspace it is lent.
-use mathlib.Core.Bool.{Bool, cond}
+use mathlib.Core.Bool.{cond}
 use mathlib.Core.List.{List, [], _∷_, _++_}
 use Prim.Native.Nat.{ℕ, _+_, _%_, _^_, _≤_}
 use lib.Dec.{eqb}
@@ -10,7 +10,6 @@ use Rattle.monitor.specs.declared.Instance.{Instance}
 use Rattle.monitor.specs.declared.Status.{Status}
 use Rattle.monitor.specs.declared.Event.{Event}
 use Rattle.monitor.specs.declared.Event.the-variants.{Acts, Grants, Revokes, Closes, Malformed}
-use Rattle.monitor.specs.Instances.{fresh}
 use Rattle.monitor.specs.Events.{readEvent, outcome}
 use Rattle.monitor.specs.Statuses.{statusOf}
 

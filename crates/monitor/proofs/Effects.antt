@@ -20,7 +20,7 @@ use Rattle.monitor.specs.declared.Event.the-variants.{Acts, Grants, Revo
 use Rattle.monitor.specs.Instances.{noAction, notedFor, withAction, withRow, withGrant, withoutGrant, asClosed, wellFormed}
 use Rattle.monitor.specs.Events.{readEvent, applied, workspaceAfter, outcome, eventRefusals}
 use Rattle.monitor.specs.Effects.{ActionAlone, BitAlone, MarkAlone, OwnPart, AcceptedAltersItsPart, HeldAltersNothing, RefusalAltersNothing}
-use Rattle.monitor.proofs.Cascade.{clear}
+use Rattle.policy.proofs.Refusals.{clear}
 use Rattle.monitor.proofs.Formed.{formed, users-within}
 use Rattle.monitor.proofs.Reading.{Declared, declared}
 

@@ -14,7 +14,7 @@ use Rattle.policy.specs.Words.{decode}
 use Rattle.policy.specs.Reading.{countOk, lengthOk, isTerm, isFormed, refusals, unitsOf}
 use Rattle.monitor.specs.declared.Instance.{Instance}
 use Rattle.monitor.specs.Instances.{rowsOk, openRefusals, openCode, policyOf, rowsOf, takenOf, isZero, isIdle, actionOk, isOpenable, isTakenOk, isTidy, wellFormed}
-use Rattle.monitor.proofs.Cascade.{Clear, clear, clear-front, clear-behind}
+use Rattle.policy.proofs.Refusals.{Clear, clear, clear-front, clear-behind}
 
 -- a policy that is read
 pub record Readable (users roles : ℕ) (words : List ℕ) : Type 0 where

@@ -30,7 +30,7 @@ use Rattle.monitor.specs.Events.{readEvent, applied, eventRefusals, outc
 use Rattle.monitor.specs.Effects.{OpenedIsWellFormed, AcceptedStaysWellFormed}
 use Rattle.monitor.proofs.Digits.{or-is-set, sub-is-clear}
 use Rattle.monitor.proofs.Loops.{all-replicate}
-use Rattle.monitor.proofs.Cascade.{clear}
+use Rattle.policy.proofs.Refusals.{clear}
 use Rattle.monitor.proofs.Reading.{Declared, declared}
 use Rattle.monitor.proofs.Opening.{code-accepted}
 use Rattle.monitor.proofs.Formed.{Formed, formed, is-formed, words-few, one-each, opens-clear, opens-read, opens-rows}
@@ -73,14 +73,14 @@ met-units words u h = by-test (lengthOk (length words)) (λ p. rw p (go (decode 
     go (some φ) = number-and (λ ψ. meets ψ u h) unit (subterms φ)
 
 -- ── rows below their limit ──
-set-below : (r n h : ℕ) → r < n → h < 2 ^ n → setBit r h < 2 ^ n
+pub set-below : (r n h : ℕ) → r < n → h < 2 ^ n → setBit r h < 2 ^ n
 set-below r n h l b = rw (← or-is-set h r) (or-lt n h (2 ^ r) b (pow-lt l))
 
-clear-below : (r n h : ℕ) → h < 2 ^ n → clearBit r h < 2 ^ n
+pub clear-below : (r n h : ℕ) → h < 2 ^ n → clearBit r h < 2 ^ n
 clear-below r n h b = rw (← sub-is-clear h r) (omega arith)
 
 -- a row of a well-formed instance
-row-below : (i : Instance) → Formed i → (u : ℕ) → u < i .users → getD (i .«user_roles») u 0 < 2 ^ (i .roles)
+pub row-below : (i : Instance) → Formed i → (u : ℕ) → u < i .users → getD (i .«user_roles») u 0 < 2 ^ (i .roles)
 row-below i f u l =
     let ok = opens-rows (i .users) (i .roles) (policyOf i) (rowsOf i) (f .opened) in
     let below : ℕ → Bool = λ h. ltb h (2 ^ (i .roles)) in
@@ -89,7 +89,7 @@ row-below i f u l =
     so-lt (getD (i .«user_roles») u 0) (2 ^ (i .roles)) (rw (getD-take (i .users) (i .«user_roles») u 0 l) at h)
 
 -- another row in its place
-row-formed : (i : Instance) → Formed i → (u h : ℕ) → u < i .users → h < 2 ^ (i .roles) → Formed (withRow i u h)
+pub row-formed : (i : Instance) → Formed i → (u h : ℕ) → u < i .users → h < 2 ^ (i .roles) → Formed (withRow i u h)
 row-formed i f u h l b = record {
   words-most = f .words-most;
   opened =
@@ -112,7 +112,7 @@ row-formed i f u h l b = record {
         (and-join (eqb (length (rowsOf i)) (i .users)) (all below (put (rowsOf i) u h)) (ok .0) (all-put below (rowsOf i) u h (ok .1) (lt-so h (2 ^ (i .roles)) b)))
 
 -- ── one more action ──
-action-formed : (i : Instance) → Formed i → (u : ℕ) → u < i .users → i .taken < 12 → length (i .actions) ≡ 12 → Formed (withAction i (notedFor i u))
+pub action-formed : (i : Instance) → Formed i → (u : ℕ) → u < i .users → i .taken < 12 → length (i .actions) ≡ 12 → Formed (withAction i (notedFor i u))
 action-formed i f u l free n = record {
   words-most = f .words-most;
   opened = f .opened;

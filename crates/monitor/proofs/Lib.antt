@@ -3,7 +3,6 @@ pub mod Tests
 pub mod Digits
 pub mod Loops
 -- Refusals, well-formed instances and events read.
-pub mod Cascade
 pub mod Opening
 pub mod Formed
 pub mod Reading

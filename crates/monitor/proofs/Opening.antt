@@ -14,7 +14,7 @@ use Rattle.policy.specs.Reading.{refusals, unitsOf, readPolicy}
 use Rattle.policy.specs.declared.PolicyRead.{PolicyRead}
 use Rattle.policy.specs.declared.PolicyRead.the-variants.{Accepted, Refused}
 use Rattle.monitor.specs.Instances.{blank, rowsOk, openRefusals, openCode, fresh, opening}
-use Rattle.monitor.proofs.Cascade.{Clear, clear, code-front, code-behind}
+use Rattle.policy.proofs.Refusals.{Clear, clear, code-front, code-behind}
 
 module _ (users roles : ℕ) (words : List ℕ) where
   -- what each answer of the read says

@@ -25,7 +25,7 @@ use Rattle.monitor.specs.Instances.{isZero, openRefusals, openCode, fres
 use Rattle.monitor.specs.Events.{satisfies}
 use Rattle.monitor.specs.MultisetTest.{total, listed, notedBy, testRefusals, testCode, verdict, Numbered}
 use Rattle.monitor.specs.Calls.{Fillable, adding}
-use Rattle.monitor.proofs.Cascade.{Refusals, clear, code-front, code-behind}
+use Rattle.policy.proofs.Refusals.{Refusals, clear, code-front, code-behind}
 use Rattle.monitor.proofs.Formed.{Readable, words-few}
 use Rattle.monitor.proofs.Fillable.{fillable}
 use Rattle.monitor.proofs.Adding.{adding-number, adding-words, adding-policy, adding-taken, listed-length, listed-below}

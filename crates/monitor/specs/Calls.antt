@@ -8,19 +8,12 @@ use lib.ListN.{length}
 use Rattle.policy.specs.Refusals.{code}
 use Rattle.policy.specs.Words.{decode}
 use Rattle.policy.specs.Reading.{lengthOk}
-use Rattle.policy.specs.declared.PolicyRead.{PolicyRead}
-use Rattle.policy.specs.declared.PolicyRead.the-variants.{Accepted, Refused}
 use Rattle.workspace.specs.Workspace.{filled, isFillable}
 use Rattle.workspace.specs.declared.Action.{Action}
 use Rattle.monitor.specs.declared.Instance.{Instance}
 use Rattle.monitor.specs.declared.Event.{Event}
 use Rattle.monitor.specs.Instances.{policyOf, takenOf, term, notedFor, withAction, wellFormed}
 use Rattle.monitor.specs.Events.{satisfies, isPossible, tried, ownRefusals, Outcome, outcomeOf}
-
--- 01's number of a policy read
-abbrev pub readNumber : PolicyRead → ℕ
-readNumber (Accepted n m) = 0
-readNumber (Refused k) = k
 
 -- the workspace can be filled for the taken actions
 pub record Fillable (i : Instance) (room : List ℕ) : Type 0 where

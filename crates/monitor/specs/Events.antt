@@ -12,7 +12,7 @@ use Rattle.workspace.specs.declared.Action.{Action}
 use Rattle.monitor.specs.declared.Instance.{Instance}
 use Rattle.monitor.specs.declared.Event.{Event}
 use Rattle.monitor.specs.declared.Event.the-variants.{Acts, Grants, Revokes, Closes, Malformed}
-use Rattle.monitor.specs.Instances.{policyOf, takenOf, term, notedFor, withAction, withGrant, withoutGrant, asClosed, wellFormed}
+use Rattle.monitor.specs.Instances.{takenOf, term, notedFor, withAction, withGrant, withoutGrant, asClosed, wellFormed}
 
 -- ── the word ──
 -- `Malformed`: out of layout, or a user or role that is not declared (01, number 7).

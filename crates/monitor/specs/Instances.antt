@@ -1,7 +1,6 @@
 -- The instance (document 01: sheet): the blank one, opening one, what an accepted event alters, and when one is well formed.
 use mathlib.Core.Bool.{Bool, true, false, not, _&&_, cond}
 use mathlib.Core.List.{List, [], _∷_, _++_}
-use mathlib.Core.Option.{Option}
 use Prim.Native.Nat.{ℕ, _+_, _^_}
 use lib.Bits.{bitAnd}
 use lib.Dec.{leb, ltb, eqb}

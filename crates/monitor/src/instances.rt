@@ -3,7 +3,6 @@ ghost use mathlib.Core.Path.{_≡_};
 ghost use Prim.Native.Nat.{_≤_, _<_};
 ghost use lib.ListN.{length};
 ghost use Rattle.monitor.specs.Instances.{fresh, opening, notedFor};
-ghost use Rattle.monitor.specs.Calls.{readNumber};
 use super::Answer;
 use super::Instance;
 use super::codes;
@@ -13,16 +12,6 @@ use super::rows::padded_words;
 use super::rows::rows_ok;
 use policy::PolicyRead;
 use workspace::Action;
-
-// The number of a policy read.
-fn read_number(read: PolicyRead) -> u8
-    ensures { λ r. ⌜ r ≡ readNumber read ⌝ }
-{
-    match read {
-        PolicyRead::Accepted { words: _, units: _ } => codes::ACCEPTED,
-        PolicyRead::Refused(code) => code,
-    }
-}
 
 impl Instance {
     // An instance with no action, not closed.
@@ -50,7 +39,7 @@ impl Instance {
     {
         let read = policy::read(users, roles, words);
         let PolicyRead::Accepted { words: _, units: _ } = read else {
-            return refused(read_number(read));
+            return refused(policy::number_of(read));
         };
         if !rows_ok(users, roles, rows) {
             return refused(codes::ROWS);

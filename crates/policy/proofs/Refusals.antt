@@ -1,39 +1,48 @@
--- Laws of lists of refusals: the number is 0 exactly when none applies.
-use mathlib.Core.Path.{_≡_, refl, sym, _∙_, ap}
-use mathlib.Core.Bool.{Bool, true, false, So, not, cond}
+-- The first refusal that applies: where none does, every test fails; of two lists, one behind the other, the one in front decides.
+use mathlib.Core.Path.{_≡_, refl, subst}
+use mathlib.Core.Logic.{_≢_}
+use mathlib.Core.Bool.{Bool, true, false, So, not}
 use mathlib.Core.List.{List, [], _∷_, _++_}
-use Prim.Native.Nat.{ℕ, _<_}
-use native.Mathlib.Omega.{arith}
-use lib.Dec.{ltb}
+use Prim.Native.Nat.{ℕ}
+use lib.Dec.{eqb}
 use Rattle.soda.specs.Lists.{all}
-use Rattle.soda.proofs.Bools.{and-split, so-lt}
+use Rattle.soda.proofs.Bools.{never, and-split}
 use Rattle.policy.specs.Refusals.{code}
 
--- no test of the list applies
-abbrev pub NoneOf : List (Bool × ℕ) → Type 0
-NoneOf [] = Unit
-NoneOf (r ∷ l) = (r .0 ≡ false) × NoneOf l
+abbrev pub Refusals : Type 0
+Refusals = List (Bool × ℕ)
 
--- every number is above 0, so it tells a refusal from acceptance
-abbrev pub numbered : List (Bool × ℕ) → Bool
-numbered l = all (λ r. ltb 0 (r .1)) l
+-- no number is that of acceptance
+abbrev pub numbered : Refusals → Bool
+numbered l = all (λ r. not (eqb (r .1) 0)) l
 
-pub none-of : (l : List (Bool × ℕ)) → So (numbered l) → code l ≡ 0 → NoneOf l
-none-of [] n e = tt
-none-of (r ∷ l) n e = let k = and-split (ltb 0 (r .1)) (numbered l) n in go (r .0) refl e (so-lt 0 (r .1) (k .0)) (none-of l (k .1))
-  where
-    go : (b : Bool) → r .0 ≡ b → cond b (r .1) (code l) ≡ 0 → 0 < r .1 → (code l ≡ 0 → NoneOf l) → (r .0 ≡ false) × NoneOf l
-    go true p f h ih = absurd (omega arith)
-    go false p f h ih = (p, ih f)
+-- no refusal applies
+abbrev pub Clear : Refusals → Type 0
+Clear [] = Unit {0}
+Clear (r ∷ l) = (r .0 ≡ false) × Clear l
 
-pub no-test : (b : Bool) → not b ≡ false → So b
-no-test true e = refl
-no-test false e = sym e
+pub clear : (l : Refusals) → So (numbered l) → code l ≡ 0 → Clear l
+clear [] z e = tt
+clear ((true, n) ∷ l) z e = never (subst (λ (k : ℕ). So (not (eqb k 0))) e (and-split (not (eqb n 0)) (numbered l) z .0))
+clear ((false, n) ∷ l) z e = (refl, clear l (and-split (not (eqb n 0)) (numbered l) z .1) e)
 
--- one list behind another of which nothing applies
-pub code-behind : (l m : List (Bool × ℕ)) → So (numbered l) → code l ≡ 0 → code (l ++ m) ≡ code m
-code-behind l m n e = go l (none-of l n e)
-  where
-    go : (k : List (Bool × ℕ)) → NoneOf k → code (k ++ m) ≡ code m
-    go [] h = refl
-    go (r ∷ k) h = ap (λ b. cond b (r .1) (code (k ++ m))) (h .0) ∙ go k (h .1)
+pub clear-code : (l : Refusals) → Clear l → code l ≡ 0
+clear-code [] h = refl
+clear-code (r ∷ l) h = rw (h .0) (clear-code l (h .1))
+
+pub code-front : (l m : Refusals) → code l ≢ 0 → code (l ++ m) ≡ code l
+code-front [] m ne = absurd (ne refl)
+code-front ((true, n) ∷ l) m ne = refl
+code-front ((false, n) ∷ l) m ne = code-front l m ne
+
+pub code-behind : (l m : Refusals) → Clear l → code (l ++ m) ≡ code m
+code-behind [] m h = refl
+code-behind (r ∷ l) m h = rw (h .0) (code-behind l m (h .1))
+
+pub clear-front : (l m : Refusals) → Clear (l ++ m) → Clear l
+clear-front [] m h = tt
+clear-front (r ∷ l) m h = (h .0, clear-front l m (h .1))
+
+pub clear-behind : (l m : Refusals) → Clear (l ++ m) → Clear m
+clear-behind [] m h = h
+clear-behind (r ∷ l) m h = clear-behind l m (h .1)

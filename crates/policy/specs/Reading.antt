@@ -49,6 +49,11 @@ unitsOf (some φ) = marks unit φ
 abbrev pub answer : ℕ → List ℕ → PolicyRead
 answer k ws = cond (eqb k 0) (Accepted (length ws) (unitsOf (decode ws))) (Refused k)
 
+-- the number that an answer gives
+abbrev pub numberOf : PolicyRead → ℕ
+numberOf (Accepted n units) = 0
+numberOf (Refused k) = k
+
 unfoldable pub readPolicy : ℕ → ℕ → List ℕ → PolicyRead
 readPolicy users roles ws = answer (code (refusals users roles ws)) ws
 

@@ -7,7 +7,7 @@ ghost use lib.ListN.{length};
 ghost use Rattle.soda.specs.Bits.{bit};
 ghost use Rattle.soda.specs.Lists.{all};
 ghost use Rattle.policy.specs.Words.{kind, operand, sides, operandOk, wordOk, first, decode};
-ghost use Rattle.policy.specs.Reading.{countOk, lengthOk, readPolicy, metOf};
+ghost use Rattle.policy.specs.Reading.{countOk, lengthOk, numberOf, readPolicy, metOf};
 ghost use Rattle.policy.specs.Shapes.{padded, shapeIn, shapeOf};
 ghost use Rattle.policy.specs.Scans.{known, meetsLeaf, maskOf, aboveOf, leafOf, overOf, besideOf, scanned, rightOf, rightsFrom};
 
@@ -73,7 +73,7 @@ const NO_SIDE: Facts = Facts {
 };
 
 // The kind of a word.
-fn kind_of(w: u32) -> usize
+pub fn kind_of(w: u32) -> usize
     ensures { λ r. ⌜ r ≡ kind w ⌝ }
 {
     (w >> 24) as usize
@@ -87,7 +87,7 @@ fn operand_of(w: u32) -> u32
 }
 
 // How many sides a word of kind k has.
-fn sides_of(k: usize) -> u8
+pub fn sides_of(k: usize) -> u8
     ensures { λ r. ⌜ r ≡ sides k ⌝ }
 {
     if k < 10 { SIDES[k] } else { 0 }
@@ -337,6 +337,16 @@ pub fn read(users: u8, roles: u8, words: &[u32]) -> PolicyRead
     PolicyRead::Accepted {
         words: words.len(),
         units: t.units,
+    }
+}
+
+// The number that an answer gives.
+pub fn number_of(answer: PolicyRead) -> u8
+    ensures { λ r. ⌜ r ≡ numberOf answer ⌝ }
+{
+    match answer {
+        PolicyRead::Accepted { words: _, units: _ } => 0,
+        PolicyRead::Refused(number) => number,
     }
 }
 

@@ -3,11 +3,10 @@ use mathlib.Core.Path.{_≡_, sym, ap, _∙_}
 use Prim.Native.Nat.{ℕ}
 use native.Mathlib.Omega.{arith}
 use borrow.Author.Needs.{needs}
-use Rattle.policy.specs.Reading.{refusals, readPolicy}
+use Rattle.policy.specs.Reading.{refusals, numberOf, readPolicy}
 use Rattle.policy.specs.declared.PolicyRead.the-variants.{Refused}
-use Rattle.monitor.specs.Calls.{readNumber}
 use Rattle.monitor.proofs.Tests.{failed, passed}
-use Rattle.monitor.proofs.Cascade.{Clear}
+use Rattle.policy.proofs.Refusals.{Clear}
 use Rattle.monitor.proofs.Opening.{read-refused, read-accepted, code-refused, code-accepted, opening-refused, opening-accepted}
 use Rattle.monitor.proofs.Formed.{readable, words-few, one-each}
 use Rattle.monitor.proofs.Instance.open.Statement.{statement}
@@ -22,8 +21,8 @@ enum-told c = search needs
 enum-told-2 : tie.Need-enum-told-2
 enum-told-2 c = search needs
 
-read-number-requires : tie.Need-read-number-requires
-read-number-requires c κs = search needs
+number-of-requires : tie.Need-number-of-requires
+number-of-requires c κs = search needs
 
 refused-requires : tie.Need-refused-requires
 refused-requires c κs = search needs
@@ -34,7 +33,7 @@ returns c =
     let a = t .before .before .before .before .before .args in
     let k : ℕ = t .enum-told2 .given .0 .0 in
     let e : readPolicy (a .users) (a .roles) (a .words .now) ≡ Refused k = sym (t .before .before .read .ensures) ∙ t .enum-told2 .given .1 in
-    let n : c .before .read-number .result ≡ k = c .before .read-number .ensures ∙ ap readNumber (t .enum-told2 .given .1) in
+    let n : c .before .number-of .result ≡ k = c .before .number-of .ensures ∙ ap numberOf (t .enum-told2 .given .1) in
     (rw n at (c .refused .ensures))
     ∙ opening-refused (a .users) (a .roles) (a .words .now) (a .rows .now) k (read-refused (a .users) (a .roles) (a .words .now) k e .1)
     (code-refused (a .users) (a .roles) (a .words .now) (a .rows .now) k e)
@@ -85,7 +84,7 @@ open-spec =
     read-requires
     enum-told
     enum-told-2
-    read-number-requires
+    number-of-requires
     refused-requires
     returns
     rows-ok-requires

@@ -1,0 +1,4 @@
+pub mod Chains
+pub mod Merging
+pub mod Normalising
+pub mod Examples

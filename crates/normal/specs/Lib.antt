@@ -1,0 +1,2 @@
+pub mod NormalForms
+pub mod Merging

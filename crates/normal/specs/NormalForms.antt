@@ -1,0 +1,32 @@
+-- The normal form call (document 01, "Normal form", "Numbers"): its number and its output.
+use mathlib.Core.Bool.{Bool, cond}
+use mathlib.Core.List.{List, [], _∷_, _++_}
+use mathlib.Core.Option.{Option, some, none}
+use Prim.Native.Nat.{ℕ}
+use lib.Dec.{ltb, eqb}
+use lib.ListN.{length, drop}
+use Rattle.soda.specs.Terms.{Term}
+use Rattle.soda.specs.Words.{encode}
+use Rattle.soda.specs.Normal.{normalForm}
+use Rattle.policy.specs.Refusals.{_gives_, code}
+use Rattle.policy.specs.Words.{decode}
+use Rattle.policy.specs.Reading.{refusals}
+
+-- the words of a term's normal form
+abbrev pub normalIn : Option Term → List ℕ
+normalIn none = []
+normalIn (some φ) = encode (normalForm φ)
+
+unfoldable pub normalWords : List ℕ → List ℕ
+normalWords ws = normalIn (decode ws)
+
+-- 5, 1 to 4, 13: an output shorter than the policy; n is the output's length
+unfoldable pub normalRefusals : ℕ → ℕ → List ℕ → ℕ → List (Bool × ℕ)
+normalRefusals users roles ws n = refusals users roles ws ++ ((ltb n (length ws) gives 13) ∷ [])
+
+abbrev pub normalCode : ℕ → ℕ → List ℕ → ℕ → ℕ
+normalCode users roles ws n = code (normalRefusals users roles ws n)
+
+-- the normal form at the output's start, the rest kept; a refusal changes nothing
+unfoldable pub normalOut : ℕ → ℕ → List ℕ → List ℕ → List ℕ
+normalOut users roles ws out = cond (eqb (normalCode users roles ws (length out)) 0) (normalWords ws ++ drop (length ws) out) out
