@@ -1,0 +1,37 @@
+-- The numbers of openings and events are below 16.
+use mathlib.Core.Path.{refl}
+use mathlib.Core.Bool.{Bool, true, false, So, cond}
+use mathlib.Core.List.{List, [], _∷_}
+use Prim.Native.Nat.{ℕ, _<_}
+use lib.Dec.{ltb, lit<}
+use Rattle.soda.specs.Lists.{all}
+use Rattle.soda.proofs.Bools.{and-split, so-lt}
+use Rattle.policy.specs.Refusals.{code}
+use Rattle.monitor.specs.declared.Instance.{Instance}
+use Rattle.monitor.specs.declared.Event.{Event}
+use Rattle.monitor.specs.declared.Event.the-variants.{Acts, Grants, Revokes, Closes, Malformed}
+use Rattle.monitor.specs.Instances.{openRefusals, openCode}
+use Rattle.monitor.specs.Events.{eventRefusals}
+
+-- one of the numbers of the list, or 0
+code-below : (n : ℕ) (l : List (Bool × ℕ)) → 0 < n → So (all (λ r. ltb (r .1) n) l) → code l < n
+code-below n [] z h = z
+code-below n (r ∷ l) z h =
+    let k = and-split (ltb (r .1) n) (all (λ r. ltb (r .1) n) l) h in
+    go (r .0) (so-lt (r .1) n (k .0)) (code-below n l z (k .1))
+  where
+    go : (b : Bool) → r .1 < n → code l < n → cond b (r .1) (code l) < n
+    go true x y = x
+    go false x y = y
+
+pub open-below : (users roles : ℕ) (words rows : List ℕ) → openCode users roles words rows < 16
+unfolding openRefusals
+open-below users roles words rows = code-below 16 (openRefusals users roles words rows) (lit< tt) refl
+
+pub event-below : (i : Instance) (e : Event) (n : ℕ) → code (eventRefusals i e n) < 16
+unfolding eventRefusals
+event-below i (Acts u) n = code-below 16 (eventRefusals i (Acts u) n) (lit< tt) refl
+event-below i (Grants u r) n = code-below 16 (eventRefusals i (Grants u r) n) (lit< tt) refl
+event-below i (Revokes u r) n = code-below 16 (eventRefusals i (Revokes u r) n) (lit< tt) refl
+event-below i Closes n = code-below 16 (eventRefusals i Closes n) (lit< tt) refl
+event-below i Malformed n = code-below 16 (eventRefusals i Malformed n) (lit< tt) refl

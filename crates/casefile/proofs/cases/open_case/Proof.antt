@@ -1,0 +1,135 @@
+-- A case's parts lie within its bytes and fit the arrays, so that the arrays' parts are the words and rows that the case holds.
+use mathlib.Core.Path.{_≡_, sym, ap, ap₂, _∙_}
+use mathlib.Core.List.{List}
+use Prim.Native.Nat.{ℕ, _+_, _-_, _/_, _≤_}
+use native.Mathlib.Omega.{arith}
+use borrow.Author.Needs.{needs}
+use lib.ListN.{length, getD, take}
+use lib.Seq.{length-take-le}
+use Rattle.monitor.specs.Instances.{opening}
+use Rattle.casefile.specs.Cases.{wides, halves, policyWords, usersOf, rolesOf, rowsOf}
+use Rattle.casefile.proofs.Laying.{Laid, laid}
+use Rattle.casefile.proofs.cases.open_case.Statement.{statement}
+use Rattle.casefile.proofs.cases.open_case.Tie as tie
+
+layout : (s : tie.Start) → Laid (s .args .bytes .now)
+layout s = laid (s .args .bytes .now) (s .pre)
+
+extent-of-requires : tie.Need-extent-of-requires
+extent-of-requires c κs = let l = layout (c .before) in omega arith
+
+offset-of-requires : tie.Need-offset-of-requires
+offset-of-requires c κs = let l = layout (c .before .before) in omega arith
+
+slice-aggregate-fill-words : tie.Need-slice-aggregate-fill-words
+slice-aggregate-fill-words c = search needs
+
+fill-words-requires : tie.Need-fill-words-requires
+fill-words-requires c κs = let l = layout (c .before .before .before .before) in omega arith
+
+offset-of-requires-2 : tie.Need-offset-of-requires-2
+offset-of-requires-2 c κs = let l = layout (c .before .before .before .before .before .before) in omega arith
+
+extent-of-requires-2 : tie.Need-extent-of-requires-2
+extent-of-requires-2 c κs = let l = layout (c .before .before .before .before .before .before .before) in omega arith
+
+sub-users : tie.Need-sub-users
+sub-users c = let l = layout (c .before .before .before .before .before .before .before .before) in omega arith
+
+add-fill-rows : tie.Need-add-fill-rows
+add-fill-rows c = omega arith
+
+slice-aggregate-fill-rows : tie.Need-slice-aggregate-fill-rows
+slice-aggregate-fill-rows c = search needs
+
+fill-rows-requires : tie.Need-fill-rows-requires
+fill-rows-requires c κs = let l = layout (c .before .before .before .before .before .before .before .before .before) in omega arith
+
+shared-slice-read-open : tie.Need-shared-slice-read-open
+shared-slice-read-open c = let l = layout (c .before .before .before .before .before .before .before .before .before .before .before .before) in omega arith
+
+add-open : tie.Need-add-open
+add-open c = let l = layout (c .before .before .before .before .before .before .before .before .before .before .before .before) in omega arith
+
+shared-slice-read-open-2 : tie.Need-shared-slice-read-open-2
+shared-slice-read-open-2 c = let l = layout (c .before .before .before .before .before .before .before .before .before .before .before .before .before) in omega arith
+
+-- the words, of which there are enough
+module _ (c : tie.After-fill-words) where
+  abbrev count : ℕ
+  count = c .before .before .before .extent-of .result / 4
+
+  abbrev words : List ℕ
+  words = c .fill-words .last .1 .1 .1 .0
+
+  words-enough : count ≤ length words
+  words-enough = let l = layout (c .before .before .before .before .before) in omega (arith, c .fill-words .kept .1 .1 .1 .0)
+
+  words-are : take count words ≡ policyWords (c .before .before .before .before .before .args .bytes .now)
+  words-are =
+      let b : List ℕ = c .before .before .before .before .before .args .bytes .now in
+      c .fill-words .ensures ∙ ap₂ (λ (k n : ℕ). wides b k (n / 4)) (c .before .before .offset-of .ensures .0) (c .before .before .before .extent-of .ensures .0)
+
+-- the rows, of which there are enough
+module _ (c : tie.After-fill-rows) where
+  abbrev users : ℕ
+  users = (c .before .before .extent-of2 .result - 2) / 2
+
+  abbrev rows : List ℕ
+  rows = c .fill-rows .last .1 .1 .1 .0
+
+  rows-enough : users ≤ length rows
+  rows-enough = let l = layout (c .before .before .before .before .before .before .before .before .before .before) in omega (arith, c .fill-rows .kept .1 .1 .1 .0)
+
+  rows-are : take users rows ≡ rowsOf (c .before .before .before .before .before .before .before .before .before .before .args .bytes .now)
+  rows-are =
+      let b : List ℕ = c .before .before .before .before .before .before .before .before .before .before .args .bytes .now in
+      c .fill-rows .ensures ∙ ap₂ (λ (k n : ℕ). halves b (k + 2) ((n - 2) / 2)) (c .before .before .before .offset-of2 .ensures .0) (c .before .before .extent-of2 .ensures .0)
+
+array-share-prefix-words : tie.Need-array-share-prefix-words
+array-share-prefix-words c = words-enough (c .before .before .before .before .before .before .before .before)
+
+slice-aggregate-open : tie.Need-slice-aggregate-open
+slice-aggregate-open c = let f = c .before .before .before .before .before .before .before .before .before in sym (length-take-le (count f) (words f) (words-enough f))
+
+array-share-prefix-rows : tie.Need-array-share-prefix-rows
+array-share-prefix-rows c = rows-enough (c .before .before .before .before)
+
+slice-aggregate-open-2 : tie.Need-slice-aggregate-open-2
+slice-aggregate-open-2 c = let f = c .before .before .before .before .before in sym (length-take-le (users f) (rows f) (rows-enough f))
+
+open-requires : tie.Need-open-requires
+open-requires c κs = search needs
+
+returns : tie.Need-returns
+returns c =
+    let r = c .before .before .before .before .before .before in
+    let w = r .before .before .before .before .before in
+    let b : List ℕ = w .before .before .before .before .before .args .bytes .now in
+    c .«open» .ensures
+    ∙ ap (λ (k : ℕ). opening (getD b k 0) (getD b (k + 1) 0) (take (count w) (words w)) (take (users r) (rows r))) (r .before .before .before .offset-of2 .ensures .0)
+    ∙ ap₂ (λ (p g : List ℕ). opening (usersOf b) (rolesOf b) p g) (words-are w) (rows-are r)
+
+pub open-case-spec : {M : Type 1} → statement M
+open-case-spec =
+    tie.close
+    (tie.spec
+    extent-of-requires
+    offset-of-requires
+    slice-aggregate-fill-words
+    fill-words-requires
+    offset-of-requires-2
+    extent-of-requires-2
+    sub-users
+    add-fill-rows
+    slice-aggregate-fill-rows
+    fill-rows-requires
+    shared-slice-read-open
+    add-open
+    shared-slice-read-open-2
+    array-share-prefix-words
+    slice-aggregate-open
+    array-share-prefix-rows
+    slice-aggregate-open-2
+    open-requires
+    returns)

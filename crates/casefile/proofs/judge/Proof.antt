@@ -1,0 +1,164 @@
+-- Each return puts the text of its case at the output's start: malformed, refused by the opening, or run.
+use mathlib.Core.Path.{_≡_, sym, ap, subst, _∙_}
+use mathlib.Core.Bool.{true, false, So}
+use mathlib.Core.List.{List, _++_}
+use Prim.Native.Nat.{ℕ, _+_, _≤_}
+use native.Mathlib.Omega.{arith}
+use borrow.Author.Needs.{needs}
+use borrow.Author.Tests.{lt-ltb, le-ltb, eq-eqb, ne-eqb, not-true, not-false}
+use lib.ListN.{length, drop}
+use Rattle.monitor.specs.declared.Instance.{Instance}
+use Rattle.monitor.specs.declared.Answer.{Answer}
+use Rattle.monitor.specs.Instances.{openCode, fresh, opening, wellFormed}
+use Rattle.monitor.proofs.Kept.{opened-is-well-formed}
+use Rattle.casefile.specs.declared.Printed.the-variants.{Written}
+use Rattle.casefile.specs.Cases.{caseOk, policyWords, usersOf, rolesOf, rowsOf, eventWords}
+use Rattle.casefile.specs.Texts.{refusedText, runText, caseText, limit, printed, output}
+use Rattle.casefile.specs.Calls.{Put}
+use Rattle.casefile.proofs.Decimals.{refused-length}
+use Rattle.casefile.proofs.judge.Statement.{statement}
+use Rattle.casefile.proofs.judge.Tie as tie
+
+-- ── the text of a case ──
+module _ (b : List ℕ) where
+  abbrev number : ℕ
+  number = openCode (usersOf b) (rolesOf b) (policyWords b) (rowsOf b)
+
+  abbrev opened : Instance
+  opened = fresh (usersOf b) (rolesOf b) (policyWords b) (rowsOf b)
+
+  malformed-text : caseOk b ≡ false → caseText b ≡ refusedText 14
+  unfolding caseText
+  malformed-text h = rw h
+
+  refused-text : caseOk b ≡ true → (number ≡ 0 → ⊥) → caseText b ≡ refusedText number
+  unfolding caseText
+  refused-text h n = rw (h, ne-eqb number 0 n)
+
+  opened-text : caseOk b ≡ true → number ≡ 0 → caseText b ≡ runText opened (eventWords b)
+  unfolding caseText
+  opened-text h z = rw (h, eq-eqb number 0 z)
+
+  -- the text at the output's start is what the contract asks
+  answered : (out : List ℕ) {text : List ℕ} {next : ℕ} {left : List ℕ} → limit ≤ length out → caseText b ≡ text → Put out 0 text next left
+      → (Written next ≡ printed b (length out)) × (left ≡ output b out)
+  unfolding printed output
+  answered out {text} l e p =
+      let n : 0 + length text ≡ length text = omega arith in (
+        ap Written (p .place ∙ n) ∙ rw (le-ltb (length out) limit l, e),
+        p .holds ∙ ap (λ (k : ℕ). text ++ drop k out) n ∙ rw (le-ltb (length out) limit l, e),
+      )
+
+-- ── the calls ──
+returns : tie.Need-returns
+unfolding printed output
+returns c = let out : List ℕ = c .before .before .before .args .out .now in
+    (rw (lt-ltb (length out) limit (omega arith)), rw (lt-ltb (length out) limit (omega arith)))
+
+case-ok-requires : tie.Need-case-ok-requires
+case-ok-requires c κs = search needs
+
+put-refused-requires : tie.Need-put-refused-requires
+put-refused-requires c κs = search needs
+
+same-length : tie.Need-same-length
+same-length c = search needs
+
+returns-2 : tie.Need-returns-2
+returns-2 c =
+    let p = c .before .before in
+    let t = p .before .before in
+    let a = t .before .before .before .before .before .args in
+    let bad : caseOk (a .bytes .now) ≡ false = sym (t .before .case-ok .ensures) ∙ not-true (t .before .case-ok .result) (t .if2 .taken) in
+    answered (a .bytes .now) (a .out .now) (t .before .before .if1 .left) (malformed-text (a .bytes .now) bad) (p .put-refused .ensures)
+
+-- the case is not malformed
+module _ (c : tie.Else2) where
+  abbrev bytes : List ℕ
+  bytes = c .before .before .before .before .before .args .bytes .now
+
+  well : caseOk bytes ≡ true
+  well = sym (c .before .case-ok .ensures) ∙ not-false (c .before .case-ok .result) (c .if2 .left)
+
+open-case-requires : tie.Need-open-case-requires
+open-case-requires c κs = well c
+
+-- what its opening gave
+module _ (c : tie.After-open-case) where
+  abbrev case : List ℕ
+  case = bytes (c .before)
+
+  code-is : c .open-case .result .code ≡ number case
+  unfolding opening
+  code-is = ap (λ (a : Answer). a .code) (c .open-case .ensures)
+
+  instance-is : number case ≡ 0 → c .open-case .result .instance ≡ opened case
+  unfolding opening
+  instance-is z = ap (λ (a : Answer). a .instance) (c .open-case .ensures) ∙ rw (eq-eqb (number case) 0 z)
+
+put-refused-requires-2 : tie.Need-put-refused-requires-2
+put-refused-requires-2 c κs =
+    let r = refused-length (c .before .before .open-case .result .code) in
+    omega (arith, r, c .before .before .before .before .before .if1 .left)
+
+same-length-2 : tie.Need-same-length-2
+same-length-2 c = search needs
+
+returns-3 : tie.Need-returns-3
+returns-3 c =
+    let p = c .before .before in
+    let t = p .before .before in
+    let o = t .before in
+    let s = o .before .before .before .before .before .before in
+    let refused : number (case o) ≡ 0 → ⊥ = λ z. t .if3 .taken (code-is o ∙ z) in
+    answered (case o) (s .args .out .now) (o .before .before .before .if1 .left) (refused-text (case o) (well (o .before)) refused ∙ ap refusedText (sym (code-is o))) (p .put-refused2 .ensures)
+
+-- the opening is accepted
+module _ (c : tie.Else3) where
+  accepted : number (case (c .before)) ≡ 0
+  accepted = sym (code-is (c .before)) ∙ c .if3 .left
+
+  fresh-is : c .before .open-case .result .instance ≡ opened (case (c .before))
+  fresh-is = instance-is (c .before) accepted
+
+run-requires : tie.Need-run-requires
+unfolding fresh
+run-requires c κs =
+    let e = c .before .before in
+    let b = case (e .before) in
+    record {
+      isFormed = subst (λ (i : Instance). So (wellFormed i)) (sym (fresh-is e)) (opened-is-well-formed (usersOf b) (rolesOf b) (policyWords b) (rowsOf b) (accepted e));
+      none = ap (λ (i : Instance). i .taken) (fresh-is e);
+      case = well (e .before .before);
+      fits = e .before .before .before .before .if1 .left;
+    }
+
+same-length-3 : tie.Need-same-length-3
+same-length-3 c = search needs
+
+returns-4 : tie.Need-returns-4
+returns-4 c =
+    let p = c .before .before in
+    let e = p .before .before .before in
+    let o = e .before in
+    let s = o .before .before .before .before .before .before in
+    let text : caseText (case o) ≡ runText (o .open-case .result .instance) (eventWords (case o)) =
+    opened-text (case o) (well (o .before)) (accepted e) ∙ ap (λ (i : Instance). runText i (eventWords (case o))) (sym (fresh-is e)) in
+    answered (case o) (s .args .out .now) (o .before .before .before .if1 .left) text (p .run .ensures)
+
+pub judge-spec : {M : Type 1} → statement M
+judge-spec =
+    tie.close
+    (tie.spec
+    returns
+    case-ok-requires
+    put-refused-requires
+    same-length
+    returns-2
+    open-case-requires
+    put-refused-requires-2
+    same-length-2
+    returns-3
+    run-requires
+    same-length-3
+    returns-4)

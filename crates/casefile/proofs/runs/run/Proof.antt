@@ -1,0 +1,193 @@
+-- The loop keeps that the output holds the lines of the first i events, and that the instance is the one after them.
+use mathlib.Core.Path.{_≡_, refl, sym, ap, ap₂, _∙_}
+use mathlib.Core.Bool.{So}
+use mathlib.Core.List.{List, [], _++_}
+use Prim.Native.Nat.{ℕ, _+_, _-_, _*_, _/_, _≤_}
+use native.Mathlib.Omega.{arith}
+use lib.ListN.{length, length-append}
+use Rattle.monitor.specs.declared.Instance.{Instance}
+use Rattle.monitor.specs.Instances.{wellFormed}
+use Rattle.monitor.specs.Events.{eventInstance}
+use Rattle.monitor.proofs.Formed.{formed}
+use Rattle.casefile.specs.Cases.{wides, eventWords}
+use Rattle.casefile.specs.Texts.{takenText, eventLines, after, actionsTaken, runText}
+use Rattle.casefile.specs.Calls.{HasRoom, Put}
+use Rattle.casefile.proofs.Laying.{Laid, laid}
+use Rattle.casefile.proofs.Decimals.{taken-length}
+use Rattle.casefile.proofs.Writing.{put-behind, room-behind, put-length}
+use Rattle.casefile.proofs.Growing.{lineOf, after-more, lines-more, lines-bound, line-short}
+use Rattle.casefile.proofs.Taken.{taken-is-final}
+use Rattle.casefile.proofs.runs.run.Statement.{statement}
+use Rattle.casefile.proofs.runs.run.Tie as tie
+
+-- after i of the events from a place of the bytes on: the instance j, and the output with its next place
+record Running (bytes out : List ℕ) (from count : ℕ) (first : Instance) (left room : List ℕ) (j : Instance) (at i : ℕ) : Type 0 where
+  within : i ≤ count
+  size : length room ≡ 8192
+  isFormed : So (wellFormed j)
+  same : j ≡ after first (wides bytes from i)
+  lines : Put out 0 (eventLines first 1 (wides bytes from i)) at left
+
+abbrev Inv-loop : tie.InvT-loop
+Inv-loop bytes out₀ from count workspace₀ current₀ at₀ i₀ out workspace current at i = Running bytes out₀ from count current₀ out workspace current at i
+
+abbrev μ-loop : tie.MeasureT-loop
+μ-loop bytes out₀ from count workspace₀ current₀ at₀ i₀ out workspace current at i = count - i
+
+layout : (s : tie.Start Inv-loop μ-loop) → Laid (s .args .bytes .now)
+layout s = laid (s .args .bytes .now) (s .pre .case)
+
+offset-of-requires : tie.Need-offset-of-requires Inv-loop μ-loop
+offset-of-requires c κs = let l = layout (c .before .before) in omega arith
+
+extent-of-requires : tie.Need-extent-of-requires Inv-loop μ-loop
+extent-of-requires c κs = let l = layout (c .before .before .before) in omega arith
+
+loop-holds : tie.Need-loop-holds Inv-loop μ-loop
+unfolding eventLines after
+loop-holds c = record {
+  within = omega arith;
+  size = refl;
+  isFormed = c .before .before .before .before .pre .isFormed;
+  same = refl;
+  lines = record { place = refl; holds = refl };
+}
+
+-- at the loop's head: the case's events, the lines so far, and the room that they leave
+module _ (m : tie.At-loop Inv-loop μ-loop) where
+  abbrev start : tie.Start Inv-loop μ-loop
+  start = m .before .before .before .before .before
+
+  abbrev bytes : List ℕ
+  bytes = start .args .bytes .now
+
+  abbrev from : ℕ
+  from = m .before .before .offset-of .result
+
+  abbrev count : ℕ
+  count = m .before .extent-of .result / 4
+
+  abbrev words : List ℕ
+  words = wides bytes from (m .loop .i)
+
+  abbrev text : List ℕ
+  text = eventLines (start .args .instance) 1 words
+
+  few : count ≤ 256
+  few = let l = layout start in omega arith
+
+  inside : from + count * 4 ≤ length bytes
+  inside = let l = layout start in omega arith
+
+  short : length text ≤ 9 * m .loop .i
+  short = lines-bound (start .args .instance) bytes from (m .loop .i)
+
+  -- a text of nine bytes more fits
+  fits : (t : List ℕ) → length t ≤ 9 → HasRoom (start .args .out .now) 0 (text ++ t)
+  fits t l = omega (arith, length-append text t, short, few, m .loop .inv .within, start .pre .fits)
+
+  as-long : length (m .loop .out) ≡ length (start .args .out .now)
+  as-long = put-length (m .loop .inv .lines) (omega (arith, short, few, m .loop .inv .within, start .pre .fits))
+
+mul-wide-at : tie.Need-mul-wide-at Inv-loop μ-loop
+mul-wide-at c = let f = few (c .before) in omega arith
+
+add-wide-at : tie.Need-add-wide-at Inv-loop μ-loop
+add-wide-at c = let f = few (c .before) in omega arith
+
+wide-at-requires : tie.Need-wide-at-requires Inv-loop μ-loop
+wide-at-requires c κs = let n = inside (c .before) in omega arith
+
+add-step : tie.Need-add-step Inv-loop μ-loop
+add-step c = let f = few (c .before .before) in omega arith
+
+slice-aggregate-step : tie.Need-slice-aggregate-step Inv-loop μ-loop
+slice-aggregate-step c = sym (c .before .before .before .before .loop .inv .size)
+
+step-requires : tie.Need-step-requires Inv-loop μ-loop
+step-requires c κs =
+    let m = c .before .before .before .before in
+    record {
+      isFormed = m .loop .inv .isFormed;
+      size = m .loop .inv .size;
+      fits = omega (arith, as-long m, short m, few m, m .loop .inv .lines .place, start m .pre .fits);
+    }
+
+add-i : tie.Need-add-i Inv-loop μ-loop
+add-i c = let f = few (c .before .before .before .before .before .before .before .before .before) in omega arith
+
+loop-less : tie.Need-loop-less Inv-loop μ-loop
+loop-less c = omega arith
+
+loop-again : tie.Need-loop-again Inv-loop μ-loop
+loop-again c =
+    let s = c .before .before .before .before in
+    let w = s .before .before .before in
+    let m = w .before .before in
+    let i = m .loop .i in
+    let first = start m .args .instance in
+    let here : m .loop .current ≡ after first (words m) = m .loop .inv .same in
+    let line : List ℕ = lineOf (m .loop .current) (i + 1) (w .wide-at .result) in
+    let grown : text m ++ line ≡ eventLines first 1 (wides (bytes m) (from m) (i + 1)) =
+    ap₂ (λ (j : Instance) (v : ℕ). text m ++ lineOf j (i + 1) v) here (w .wide-at .ensures) ∙ sym (lines-more first (bytes m) (from m) i) in
+    record {
+      within = omega arith;
+      size = s .step .kept .1 .1 .1 .1 .1 .0 ∙ m .loop .inv .size;
+      isFormed = s .step .ensures .isFormed;
+      same = s .step .ensures .same ∙ ap₂ (λ (j : Instance) (v : ℕ). eventInstance j v 8192) here (w .wide-at .ensures) ∙ sym (after-more first (bytes m) (from m) i);
+      lines = rw grown at (put-behind (m .loop .inv .lines) line (fits m line (line-short (m .loop .current) (i + 1) (w .wide-at .result))) (s .step .ensures .line));
+    }
+
+-- after the loop
+module _ (e : tie.After-loop Inv-loop μ-loop) where
+  taken-short : length (takenText (e .before .loop .current .taken)) ≤ 9
+  taken-short = let f = formed (e .before .loop .current) (e .before .loop .inv .isFormed) in taken-length (e .before .loop .current .taken) (omega (arith, f .taken-most))
+
+  all-events : words (e .before) ≡ eventWords (bytes (e .before))
+  all-events =
+      let m = e .before in
+      let last : m .loop .i ≡ count m = omega (arith, m .loop .inv .within, e .loop-test .left) in
+      ap₂ (λ (k n : ℕ). wides (bytes m) k n) (m .before .before .offset-of .ensures .0) (last ∙ ap (λ (n : ℕ). n / 4) (m .before .extent-of .ensures .0))
+
+put-taken-requires : tie.Need-put-taken-requires Inv-loop μ-loop
+put-taken-requires c κs =
+    let e = c .before in
+    let m = e .before in
+    let t : List ℕ = takenText (m .loop .current .taken) in
+    room-behind (m .loop .inv .lines) t (fits m t (taken-short e))
+
+same-length : tie.Need-same-length Inv-loop μ-loop
+same-length c = let p = c .before .before in p .put-taken .kept .0 ∙ as-long (p .before .before .before)
+
+returns : tie.Need-returns Inv-loop μ-loop
+unfolding runText
+returns c =
+    let p = c .before .before in
+    let e = p .before .before in
+    let m = e .before in
+    let first = start m .args .instance in
+    let n : m .loop .current .taken ≡ actionsTaken first (words m) = ap (λ (j : Instance). j .taken) (m .loop .inv .same) ∙ sym (taken-is-final first (words m) (start m .pre .none)) in
+    let t : List ℕ = takenText (m .loop .current .taken) in
+    rw (← all-events e, ← n) (put-behind (m .loop .inv .lines) t (fits m t (taken-short e)) (p .put-taken .ensures))
+
+pub run-spec : {M : Type 1} → statement M
+run-spec =
+    tie.close
+    (tie.spec
+    Inv-loop
+    μ-loop
+    offset-of-requires
+    extent-of-requires
+    loop-holds
+    mul-wide-at
+    add-wide-at
+    wide-at-requires
+    add-step
+    slice-aggregate-step
+    step-requires
+    add-i
+    loop-less
+    loop-again
+    put-taken-requires
+    same-length
+    returns)

@@ -1,0 +1,103 @@
+-- The event call gives the number and the instance; that instance is well formed again, so that the status call gives its letter.
+use mathlib.Core.Path.{_≡_, sym, ap, ap₂, subst, _∙_}
+use mathlib.Core.Bool.{So}
+use Prim.Native.Nat.{ℕ, _≤_}
+use native.Mathlib.Omega.{arith}
+use borrow.Author.Needs.{needs}
+use lib.ListN.{length}
+use Rattle.monitor.specs.declared.Instance.{Instance}
+use Rattle.monitor.specs.Instances.{wellFormed}
+use Rattle.monitor.specs.Events.{Outcome, outcome, eventCode, eventInstance}
+use Rattle.monitor.specs.Statuses.{standing, letter}
+use Rattle.monitor.proofs.Loops.{length-mapped}
+use Rattle.casefile.specs.Texts.{lineText}
+use Rattle.casefile.proofs.Keeping.{left-formed, status-given}
+use Rattle.casefile.proofs.Growing.{lineOf, line-short}
+use Rattle.casefile.proofs.runs.step.Statement.{statement}
+use Rattle.casefile.proofs.runs.step.Tie as tie
+
+event-requires : tie.Need-event-requires
+event-requires c κs = search needs
+
+-- what the event call gave
+module _ (c : tie.After-event) where
+  abbrev start : tie.Start
+  start = c .before .before .before .before
+
+  abbrev before : Instance
+  before = start .args .instance
+
+  abbrev word : ℕ
+  word = start .args .word
+
+  number : c .event .result .code ≡ eventCode before word 8192
+  unfolding outcome
+  number = ap (λ (o : Outcome). o .code) (c .event .ensures) ∙ ap (λ (n : ℕ). eventCode before word n) (start .pre .size)
+
+  left : c .event .result .instance ≡ eventInstance before word 8192
+  unfolding outcome
+  left = ap (λ (o : Outcome). o .instance) (c .event .ensures) ∙ ap (λ (n : ℕ). eventInstance before word n) (start .pre .size)
+
+  places : length (before .actions) ≡ 12
+  places = search (needs, length-mapped)
+
+  formed : So (wellFormed (c .event .result .instance))
+  formed = subst (λ (i : Instance). So (wellFormed i)) (sym (ap (λ (o : Outcome). o .instance) (c .event .ensures)))
+      (left-formed before word (start .args .workspace .now) places (start .pre .isFormed))
+
+  room : length (c .event .last .1 .1 .0) ≡ 8192
+  room = c .event .kept .1 .1 .0 ∙ start .pre .size
+
+status-requires : tie.Need-status-requires
+status-requires c κs = search needs
+
+letter-of-requires : tie.Need-letter-of-requires
+letter-of-requires c κs = search needs
+
+-- the line
+module _ (c : tie.After-letter-of) where
+  abbrev called : tie.After-event
+  called = c .before .before .before .before .before .before .before .before .before
+
+  status : c .letter-of .result ≡ letter (standing (eventInstance (before called) (word called) 8192))
+  status =
+      let s = c .before .before .before .before in
+      c .letter-of .ensures
+      ∙ ap letter (s .status .ensures .0 ∙ status-given (called .event .result .instance) (called .event .last .1 .1 .0) (room called) (formed called) ∙ ap standing (left called))
+
+  line : lineText (start called .args .place) (called .event .result .code) (c .letter-of .result) ≡ lineOf (before called) (start called .args .place) (word called)
+  line = ap₂ (λ (k l : ℕ). lineText (start called .args .place) k l) (number called) status
+
+put-line-requires : tie.Need-put-line-requires
+put-line-requires c κs =
+    let s = start (called c) in
+    let short : length (lineOf (s .args .instance) (s .args .place) (s .args .word)) ≤ 9 = line-short (s .args .instance) (s .args .place) (s .args .word) in
+    rw (line c) (omega (arith, s .pre .fits))
+
+same-length : tie.Need-same-length
+same-length c = search needs
+
+same-length-2 : tie.Need-same-length-2
+same-length-2 c = search needs
+
+returns : tie.Need-returns
+returns c =
+    let p = c .before .before in
+    let l = p .before in
+    record {
+      same = left (called l);
+      isFormed = formed (called l);
+      line = rw (line l) at (p .put-line .ensures);
+    }
+
+pub step-spec : {M : Type 1} → statement M
+step-spec =
+    tie.close
+    (tie.spec
+    event-requires
+    status-requires
+    letter-of-requires
+    put-line-requires
+    same-length
+    same-length-2
+    returns)

@@ -1,0 +1,99 @@
+-- By the number's size: one byte, two, or one and then two.
+use mathlib.Core.Path.{_≡_}
+use mathlib.Core.List.{List, [], _∷_}
+use Prim.Native.Nat.{ℕ, _/_}
+use native.Mathlib.Omega.{arith}
+use borrow.Author.Needs.{needs}
+use Rattle.casefile.specs.Texts.{digit, decimal}
+use Rattle.casefile.specs.Calls.{HasRoom, Put}
+use Rattle.casefile.proofs.Decimals.{one-digit, two-digits, three-digits}
+use Rattle.casefile.proofs.Writing.{room-behind, put-behind}
+use Rattle.casefile.proofs.texts.put_decimal.Statement.{statement}
+use Rattle.casefile.proofs.texts.put_decimal.Tie as tie
+
+digit-of-requires : tie.Need-digit-of-requires
+digit-of-requires c κs = search needs
+
+put-requires : tie.Need-put-requires
+put-requires c κs = let s = c .before .before .before .before in
+    rw (one-digit (s .args .n) (omega arith)) at (s .pre)
+
+same-length : tie.Need-same-length
+same-length c = search needs
+
+returns : tie.Need-returns
+returns c =
+    let p = c .before .before in
+    let s = p .before .before .before .before .before in
+    rw (one-digit (s .args .n) (omega arith), ← (p .before .digit-of .ensures)) (p .put .ensures)
+
+put-two-requires : tie.Need-put-two-requires
+put-two-requires c κs = let s = c .before .before .before .before in
+    rw (two-digits (s .args .n) (omega arith) (omega arith)) at (s .pre)
+
+same-length-2 : tie.Need-same-length-2
+same-length-2 c = search needs
+
+returns-2 : tie.Need-returns-2
+returns-2 c =
+    let p = c .before .before in
+    let s = p .before .before .before .before .before in
+    rw (two-digits (s .args .n) (omega arith) (omega arith)) (p .put-two .ensures)
+
+digit-of-requires-2 : tie.Need-digit-of-requires-2
+digit-of-requires-2 c κs = search needs
+
+-- a number of three digits
+module _ (c : tie.Else2) where
+  abbrev first : List ℕ
+  first = digit (c .before .before .before .args .n / 100) ∷ []
+
+  abbrev rest : List ℕ
+  rest = digit (c .before .before .before .args .n / 10) ∷ digit (c .before .before .before .args .n) ∷ []
+
+  large : let s = c .before .before .before in decimal (s .args .n) ≡ digit (s .args .n / 100) ∷ rest
+  large = three-digits (c .before .before .before .args .n) (omega arith)
+
+  room : let s = c .before .before .before in HasRoom (s .args .out .now) (s .args .at) (digit (s .args .n / 100) ∷ rest)
+  room = rw large at (c .before .before .before .pre)
+
+put-requires-2 : tie.Need-put-requires-2
+put-requires-2 c κs = let r = room (c .before .before) in omega arith
+
+-- the hundreds are put
+hundreds : (c : tie.After-put2) → let e = c .before .before .before in let s = e .before .before .before in
+    Put (s .args .out .now) (s .args .at) (first e) (c .put2 .result) (c .put2 .last .0)
+hundreds c = rw (c .before .digit-of2 .ensures) at (c .put2 .ensures)
+
+put-two-requires-2 : tie.Need-put-two-requires-2
+put-two-requires-2 c κs =
+    let p = c .before .before .before in
+    let e = p .before .before .before in
+    room-behind (hundreds p) (rest e) (room e)
+
+same-length-3 : tie.Need-same-length-3
+same-length-3 c = search needs
+
+returns-3 : tie.Need-returns-3
+returns-3 c =
+    let q = c .before .before in
+    let p = q .before .before .before .before in
+    let e = p .before .before .before in
+    rw (large e) (put-behind (hundreds p) (rest e) (room e) (q .put-two2 .ensures))
+
+pub put-decimal-spec : {M : Type 1} → statement M
+put-decimal-spec =
+    tie.close
+    (tie.spec
+    digit-of-requires
+    put-requires
+    same-length
+    returns
+    put-two-requires
+    same-length-2
+    returns-2
+    digit-of-requires-2
+    put-requires-2
+    put-two-requires-2
+    same-length-3
+    returns-3)

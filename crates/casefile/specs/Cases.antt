@@ -1,0 +1,66 @@
+-- A case in bytes (document 01, "Case file and program"): its parts, when it is malformed, and what it holds.
+use mathlib.Core.Bool.{Bool, _&&_}
+use mathlib.Core.List.{List, [], _∷_}
+use Prim.Native.Nat.{ℕ, zero, suc, _+_, _-_, _*_, _/_, _%_}
+use lib.Dec.{leb, eqb}
+use lib.ListN.{length, getD}
+
+-- numbers of 16 and 32 bits at a place, low byte first
+abbrev pub half : List ℕ → ℕ → ℕ
+half b k = getD b k 0 + getD b (k + 1) 0 * 256
+
+abbrev pub wide : List ℕ → ℕ → ℕ
+wide b k = half b k + half b (k + 2) * 65536
+
+-- the three pairs of offset and length: policy, grants, events
+abbrev pub offset : List ℕ → ℕ → ℕ
+offset b part = half b (part * 4)
+
+abbrev pub extent : List ℕ → ℕ → ℕ
+extent b part = half b (part * 4 + 2)
+
+-- The first offset is 12, each part begins where the last ended, and the third ends the file.
+abbrev pub partsOk : List ℕ → Bool
+partsOk b =
+    eqb (offset b 0) 12
+    && (eqb (offset b 1) (offset b 0 + extent b 0)
+    && (eqb (offset b 2) (offset b 1 + extent b 1)
+    && eqb (length b) (offset b 2 + extent b 2)))
+
+-- policy and events are multiples of 4, events at most 1,024 bytes; grants at least 2 bytes and of even length
+abbrev pub lengthsOk : List ℕ → Bool
+lengthsOk b =
+    eqb (extent b 0 % 4) 0
+    && (eqb (extent b 2 % 4) 0
+    && (leb (extent b 2) 1024
+    && (leb 2 (extent b 1)
+    && eqb (extent b 1 % 2) 0)))
+
+-- 14 applies where this is false
+unfoldable pub caseOk : List ℕ → Bool
+caseOk b = leb 12 (length b) && (leb (length b) 4096 && (partsOk b && lengthsOk b))
+
+-- n numbers of 32 bits, and n of 16, from place k on
+abbrev pub wides : List ℕ → ℕ → ℕ → List ℕ
+wides b k zero = []
+wides b k (suc n) = wide b k ∷ wides b (k + 4) n
+
+abbrev pub halves : List ℕ → ℕ → ℕ → List ℕ
+halves b k zero = []
+halves b k (suc n) = half b k ∷ halves b (k + 2) n
+
+-- what a case holds: policy words; users count, roles count and a row a user; event words
+abbrev pub policyWords : List ℕ → List ℕ
+policyWords b = wides b (offset b 0) (extent b 0 / 4)
+
+abbrev pub usersOf : List ℕ → ℕ
+usersOf b = getD b (offset b 1) 0
+
+abbrev pub rolesOf : List ℕ → ℕ
+rolesOf b = getD b (offset b 1 + 1) 0
+
+abbrev pub rowsOf : List ℕ → List ℕ
+rowsOf b = halves b (offset b 1 + 2) ((extent b 1 - 2) / 2)
+
+abbrev pub eventWords : List ℕ → List ℕ
+eventWords b = wides b (offset b 2) (extent b 2 / 4)

@@ -1,0 +1,6 @@
+pub mod Cases
+pub mod Texts
+-- What is proved of them.
+pub mod Taken
+-- The contracts of private functions.
+pub mod Calls

@@ -1,0 +1,75 @@
+// A run of a case's events: each is judged, and its line put.
+ghost use mathlib.Core.Path.{_≡_};
+ghost use Rattle.monitor.specs.Statuses.{letter};
+ghost use Rattle.casefile.specs.Cases.{eventWords};
+ghost use Rattle.casefile.specs.Texts.{runText};
+ghost use Rattle.casefile.specs.Calls.{Put, CanStep, Stepped, CanRun};
+use super::numbers::EVENTS;
+use super::numbers::extent_of;
+use super::numbers::offset_of;
+use super::numbers::wide_at;
+use super::texts::put_line;
+use super::texts::put_taken;
+use monitor::Instance;
+use monitor::Status;
+
+// What an event leaves: the instance, and the place behind its line.
+struct Left {
+    instance: Instance,
+    at: usize,
+}
+
+// The letter of a status; a refusal has none.
+fn letter_of(status: Status) -> u8
+    ensures { λ r. ⌜ r ≡ letter status ⌝ }
+{
+    match status {
+        Status::Closed => b'd',
+        Status::Complete => b'c',
+        Status::Open => b'o',
+        Status::Refused(_) => 0,
+    }
+}
+
+// One event: its line is its place, its number and the status after it.
+fn step(
+    instance: Instance,
+    word: u32,
+    place: usize,
+    out: &mut [u8],
+    at: usize,
+    workspace: &mut [u32],
+) -> Left
+    requires { ⌜ CanStep instance (now workspace) (now out) at ⌝ }
+    ensures { λ r. ⌜ Stepped instance word place (now (out .entry)) at (r .instance) (r .at) (now (out .exit)) ⌝ }
+{
+    let answer = instance.event(word, workspace);
+    let next = answer.instance;
+    let status = next.status(workspace);
+    let end = put_line(out, at, place, answer.code, letter_of(status));
+    Left {
+        instance: next,
+        at: end,
+    }
+}
+
+// The lines of the case's events, then the number of actions taken.
+pub(crate) fn run(instance: Instance, bytes: &[u8], out: &mut [u8]) -> usize
+    requires { ⌜ CanRun instance (now bytes) (now out) ⌝ }
+    ensures { λ r. ⌜ Put (now (out .entry)) 0 (runText instance (eventWords (now (bytes .entry)))) r (now (out .exit)) ⌝ }
+{
+    let from = offset_of(bytes, EVENTS);
+    let count = extent_of(bytes, EVENTS) / 4;
+    let mut workspace = [0u32; 8192];
+    let mut current = instance;
+    let mut at = 0;
+    let mut i = 0;
+    while i < count {
+        let word = wide_at(bytes, from + i * 4);
+        let stepped = step(current, word, i + 1, out, at, &mut workspace);
+        current = stepped.instance;
+        at = stepped.at;
+        i += 1;
+    }
+    put_taken(out, at, current.taken)
+}
