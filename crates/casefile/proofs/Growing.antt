@@ -1,8 +1,7 @@
 -- Runs that grow at their end: one more event adds its line, and at most nine bytes.
 use mathlib.Core.Path.{_≡_, refl, sym, ap, _∙_}
 use mathlib.Core.List.{List, [], _∷_, _++_, append-nil, append-assoc}
-use Prim.Native.Nat.{ℕ, zero, suc, _+_, _*_, _≤_}
-use native.Mathlib.Numerals.{add-one}
+use Prim.Native.Nat.{ℕ, suc, _+_, _*_, _≤_}
 use native.Mathlib.Omega.{arith}
 use lib.ListN.{length, length-append}
 use Rattle.monitor.specs.declared.Instance.{Instance}
@@ -10,7 +9,7 @@ use Rattle.monitor.specs.Events.{readEvent, eventCode, eventInstance}
 use Rattle.monitor.specs.Statuses.{standing, letter}
 use Rattle.casefile.specs.Cases.{wide, wides}
 use Rattle.casefile.specs.Texts.{lineText, eventLines, after}
-use Rattle.casefile.proofs.Decoding.{wides-next}
+use Rattle.casefile.proofs.Decoding.{numbers-length, numbers-next}
 use Rattle.casefile.proofs.Decimals.{line-length}
 use Rattle.casefile.proofs.Refusing.{event-below}
 
@@ -44,23 +43,19 @@ lines-short i p (w ∷ ws) =
     let j = eventInstance i w 8192 in
     omega (arith, length-append (lineOf i p w) (eventLines j (suc p) ws), line-short i p w, lines-short j (suc p) ws)
 
-pub wides-length : (b : List ℕ) (k n : ℕ) → length (wides b k n) ≡ n
-wides-length b k zero = refl
-wides-length b k (suc n) = ap suc (wides-length b (k + 4) n)
-
 -- one more event, read from a case's bytes
 module _ (i : Instance) (b : List ℕ) (k n : ℕ) where
   words-more : wides b k (n + 1) ≡ wides b k n ++ (wide b (k + n * 4) ∷ [])
-  words-more = ap (wides b k) (add-one n) ∙ wides-next b k n
+  words-more = numbers-next (wide b) 4 k n
 
   pub after-more : after i (wides b k (n + 1)) ≡ eventInstance (after i (wides b k n)) (wide b (k + n * 4)) 8192
   after-more = ap (after i) words-more ∙ after-next i (wides b k n) (wide b (k + n * 4))
 
   pub lines-more : eventLines i 1 (wides b k (n + 1)) ≡ eventLines i 1 (wides b k n) ++ lineOf (after i (wides b k n)) (n + 1) (wide b (k + n * 4))
   lines-more =
-      let e : 1 + length (wides b k n) ≡ n + 1 = omega (arith, wides-length b k n) in
+      let e : 1 + length (wides b k n) ≡ n + 1 = omega (arith, numbers-length (wide b) 4 k n) in
       ap (eventLines i 1) words-more ∙ lines-next i 1 (wides b k n) (wide b (k + n * 4))
       ∙ ap (λ (p : ℕ). eventLines i 1 (wides b k n) ++ lineOf (after i (wides b k n)) p (wide b (k + n * 4))) e
 
   pub lines-bound : length (eventLines i 1 (wides b k n)) ≤ 9 * n
-  lines-bound = omega (arith, lines-short i 1 (wides b k n), wides-length b k n)
+  lines-bound = omega (arith, lines-short i 1 (wides b k n), numbers-length (wide b) 4 k n)

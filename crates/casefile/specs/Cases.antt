@@ -40,14 +40,16 @@ lengthsOk b =
 unfoldable pub caseOk : List ℕ → Bool
 caseOk b = leb 12 (length b) && (leb (length b) 4096 && (partsOk b && lengthsOk b))
 
--- n numbers of 32 bits, and n of 16, from place k on
+-- n numbers from place k on, each a width behind the last
+abbrev pub numbers : (ℕ → ℕ) → ℕ → ℕ → ℕ → List ℕ
+numbers at width k zero = []
+numbers at width k (suc n) = at k ∷ numbers at width (k + width) n
+
 abbrev pub wides : List ℕ → ℕ → ℕ → List ℕ
-wides b k zero = []
-wides b k (suc n) = wide b k ∷ wides b (k + 4) n
+wides b = numbers (wide b) 4
 
 abbrev pub halves : List ℕ → ℕ → ℕ → List ℕ
-halves b k zero = []
-halves b k (suc n) = half b k ∷ halves b (k + 2) n
+halves b = numbers (half b) 2
 
 -- what a case holds: policy words; users count, roles count and a row a user; event words
 abbrev pub policyWords : List ℕ → List ℕ

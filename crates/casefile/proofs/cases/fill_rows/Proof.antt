@@ -1,12 +1,11 @@
 -- The loop keeps that the first i rows are the first i numbers.
-use mathlib.Core.Path.{_≡_, refl, sym, ap, _∙_}
-use mathlib.Core.List.{[], _∷_, _++_}
-use Prim.Native.Nat.{ℕ, _+_, _-_, _≤_}
-use native.Mathlib.Numerals.{add-one}
+use mathlib.Core.Path.{_≡_, refl, _∙_}
+use mathlib.Core.List.{[]}
+use Prim.Native.Nat.{_+_, _-_, _≤_}
 use native.Mathlib.Omega.{arith}
 use lib.ListN.{length, take, length-set}
-use Rattle.casefile.specs.Cases.{halves}
-use Rattle.casefile.proofs.Decoding.{halves-next, filled-next}
+use Rattle.casefile.specs.Cases.{half, halves}
+use Rattle.casefile.proofs.Decoding.{filled-next}
 use Rattle.casefile.proofs.cases.fill_rows.Statement.{statement}
 use Rattle.casefile.proofs.cases.fill_rows.Tie as tie
 
@@ -48,9 +47,7 @@ loop-again c =
     let within : i + 1 ≤ length (at .loop .rows) = omega arith in (
       omega arith,
       length-set (at .loop .rows) i (c .half-at .result) ∙ at .loop .inv .1,
-      filled-next (at .loop .rows) (halves (a .bytes .now) (a .k) i) i (c .half-at .result) (omega arith) (at .loop .inv .2)
-          ∙ ap (λ (v : ℕ). halves (a .bytes .now) (a .k) i ++ (v ∷ [])) (c .half-at .ensures)
-          ∙ sym (halves-next (a .bytes .now) (a .k) i) ∙ ap (λ (m : ℕ). halves (a .bytes .now) (a .k) m) (sym (add-one i)),
+      filled-next (half (a .bytes .now)) 2 (at .loop .rows) (a .k) i (c .half-at .result) (omega arith) (at .loop .inv .2) (c .half-at .ensures),
     )
 
 same-length : tie.Need-same-length Inv-loop μ-loop

@@ -1,12 +1,11 @@
 -- The loop keeps that the first i words are the first i numbers.
-use mathlib.Core.Path.{_≡_, refl, sym, ap, _∙_}
-use mathlib.Core.List.{[], _∷_, _++_}
-use Prim.Native.Nat.{ℕ, _+_, _-_, _≤_}
-use native.Mathlib.Numerals.{add-one}
+use mathlib.Core.Path.{_≡_, refl, _∙_}
+use mathlib.Core.List.{[]}
+use Prim.Native.Nat.{_+_, _-_, _≤_}
 use native.Mathlib.Omega.{arith}
 use lib.ListN.{length, take, length-set}
-use Rattle.casefile.specs.Cases.{wides}
-use Rattle.casefile.proofs.Decoding.{wides-next, filled-next}
+use Rattle.casefile.specs.Cases.{wide, wides}
+use Rattle.casefile.proofs.Decoding.{filled-next}
 use Rattle.casefile.proofs.cases.fill_words.Statement.{statement}
 use Rattle.casefile.proofs.cases.fill_words.Tie as tie
 
@@ -48,9 +47,7 @@ loop-again c =
     let within : i + 1 ≤ length (at .loop .words) = omega arith in (
       omega arith,
       length-set (at .loop .words) i (c .wide-at .result) ∙ at .loop .inv .1,
-      filled-next (at .loop .words) (wides (a .bytes .now) (a .k) i) i (c .wide-at .result) (omega arith) (at .loop .inv .2)
-          ∙ ap (λ (v : ℕ). wides (a .bytes .now) (a .k) i ++ (v ∷ [])) (c .wide-at .ensures)
-          ∙ sym (wides-next (a .bytes .now) (a .k) i) ∙ ap (λ (m : ℕ). wides (a .bytes .now) (a .k) m) (sym (add-one i)),
+      filled-next (wide (a .bytes .now)) 4 (at .loop .words) (a .k) i (c .wide-at .result) (omega arith) (at .loop .inv .2) (c .wide-at .ensures),
     )
 
 same-length : tie.Need-same-length Inv-loop μ-loop
