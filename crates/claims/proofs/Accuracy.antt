@@ -23,9 +23,9 @@ use Rattle.monitor.specs.declared.Event.{Event as Request}
 use Rattle.monitor.specs.declared.Event.the-variants.{Acts, Grants, Revokes, Closes, Malformed}
 use Rattle.monitor.specs.declared.Status.the-variants.{Complete, Open}
 use Rattle.monitor.specs.Statuses.{statusRefusals, statusOf, letter}
-use Rattle.monitor.specs.Instances.{openCode, fresh, takenOf, term}
+use Rattle.monitor.specs.Instances.{openCode, takenOf, term}
 use Rattle.monitor.specs.Events.{readEvent, isMalformed, satisfies, isPossible, tried, ownRefusals, eventRefusals, outcome}
-use Rattle.claims.specs.Runs.{Rooms, Long, from, grown, history, symbolOf}
+use Rattle.claims.specs.Runs.{opened, Rooms, Long, from, grown, history, symbolOf}
 use Rattle.claims.specs.Accuracy.{Run, policy, final, accepted, traceOf, EventIsProcess, CloseIsTrace, CloseIsMultiset}
 use Rattle.monitor.proofs.Formed.{is-formed}
 use Rattle.monitor.proofs.Reading.{Declared, declared}
@@ -77,10 +77,10 @@ module _ (users roles : ℕ) (words rows : List ℕ) (p : openCode users roles w
       (next users roles words rows p i t c f q w (length (rooms 0)) (long 0) d) (h ++ x) y)
 
 -- where the run of an opening leads
-reached : (r : Run) → Reached (r .users) (r .roles) (r .words) (r .rows) (r .opened) (final r) (accepted r)
+reached : (r : Run) → Reached (r .users) (r .roles) (r .words) (r .rows) (r .accepts) (final r) (accepted r)
 reached r =
-    let p = r .opened in
-    reach (r .users) (r .roles) (r .words) (r .rows) p (r .events) (r .rooms) (r .long) (fresh (r .users) (r .roles) (r .words) (r .rows)) [] false
+    let p = r .accepts in
+    reach (r .users) (r .roles) (r .words) (r .rows) p (r .events) (r .rooms) (r .long) (opened (r .users) (r .roles) (r .words) (r .rows)) [] false
     (start (r .users) (r .roles) (r .words) (r .rows) p) [] refl
 
 -- ── the next answer ──
@@ -168,7 +168,7 @@ unfolding outcome
 event-is-process r w room l m n = go (g .mark) refl (g .follows)
   where
     p : openCode (r .users) (r .roles) (r .words) (r .rows) ≡ 0
-    p = r .opened
+    p = r .accepts
 
     g : Reached (r .users) (r .roles) (r .words) (r .rows) p (final r) (accepted r)
     g = reached r
@@ -214,14 +214,14 @@ event-is-process r w room l m n = go (g .mark) refl (g .follows)
         open-code = is-code ∙ ap (λ b. cond b 10 (cond (isMalformed e) 7 (code (ownRefusals i e)))) (f .same-mark ∙ o)
 
 module _ (r : Run) (w : ℕ) (room : List ℕ) (l : 8192 ≤ length room) (q : readEvent (r .users) (r .roles) w ≡ Closes) (o : final r .closed ≡ false) where
-  closing : Reached (r .users) (r .roles) (r .words) (r .rows) (r .opened) (final r) (accepted r)
+  closing : Reached (r .users) (r .roles) (r .words) (r .rows) (r .accepts) (final r) (accepted r)
   closing = reached r
 
   still-open : closing .mark ≡ false
   still-open = sym (closing .follows .same-mark) ∙ o
 
-  opened : Follows (r .users) (r .roles) (r .words) (r .rows) (r .opened) (final r) (closing .trace) false
-  opened = subst (Follows (r .users) (r .roles) (r .words) (r .rows) (r .opened) (final r) (closing .trace)) still-open (closing .follows)
+  unclosed : Follows (r .users) (r .roles) (r .words) (r .rows) (r .accepts) (final r) (closing .trace) false
+  unclosed = subst (Follows (r .users) (r .roles) (r .words) (r .rows) (r .accepts) (final r) (closing .trace)) still-open (closing .follows)
 
   trace-unfinished : (t : Trace) → traceOf (unfinished t) ≡ t
   trace-unfinished [] = refl
@@ -231,7 +231,7 @@ module _ (r : Run) (w : ℕ) (room : List ℕ) (l : 8192 ≤ length room) (q : r
   same-trace = ap traceOf (closing .is-run ∙ ap (ended (closing .trace)) still-open) ∙ trace-unfinished (closing .trace)
 
   is-satisfied : satisfies (term (final r)) (takenOf (final r)) ≡ satisfied (policy r) 0 (noted (policy r) (r .rows) (closing .trace))
-  is-satisfied = satisfied-taken (r .users) (r .roles) (r .words) (r .rows) (r .opened) (final r) (closing .trace) opened
+  is-satisfied = satisfied-taken (r .users) (r .roles) (r .words) (r .rows) (r .accepts) (final r) (closing .trace) unclosed
 
   close-code : outcome (final r) w room .code ≡ cond (not (satisfies (term (final r)) (takenOf (final r)))) 11 0
   unfolding outcome
@@ -252,7 +252,7 @@ module _ (r : Run) (w : ℕ) (room : List ℕ) (l : 8192 ≤ length room) (q : r
       is-status = rw (not-so (ltb (length room) 8192) (λ x. let k = so-lt (length room) 8192 x in omega arith), is-formed (final r) (closing .follows .isFormed), o)
 
   formed-policy : So (wellFormed (policy r))
-  formed-policy = formed (r .users) (r .roles) (r .words) (r .rows) (r .opened)
+  formed-policy = formed (r .users) (r .roles) (r .words) (r .rows) (r .accepts)
 
 pub close-is-trace : CloseIsTrace
 close-is-trace r w room l q o = subst (λ t. ((outcome (final r) w room .code ≡ 0) ↔ SatT (r .rows) t (policy r)) × ((statusOf (final r) room ≡ Complete) ↔ SatT (r .rows) t (policy r)))

@@ -24,7 +24,7 @@ use Rattle.normal.specs.NormalForms.{normalIn, normalWords, normalRefusals, nor
 use Rattle.policy.specs.Accepted.{IsPolicy}
 use Rattle.policy.proofs.Accepted.{read-is-encode, decode-is-term}
 use Rattle.workspace.specs.Workspace.{termOf}
-use Rattle.monitor.specs.Instances.{fresh}
+use Rattle.claims.specs.Runs.{opened}
 use Rattle.claims.specs.EqualForms.{IsAccepted, normal, EqualForms}
 use Rattle.policy.proofs.Refusals.{clear, code-behind}
 use Rattle.policy.proofs.Scanning.{counts-most}
@@ -75,9 +75,9 @@ equal-forms users roles v w e f =
     record {
       form = λ out out′ l l′. subst₂ (λ x y. (x ≡ y) ↔ WordSteps v w) (sym (written users roles v out e m l)) (sym (written users roles w out′ f n l′)) (forms users roles v w m n);
       status = λ s rows p q.
-          same-status users roles v w rows p q (related users roles v w m n .0 s) (fresh users roles v rows) (fresh users roles w rows) [] false
+          same-status users roles v w rows p q (related users roles v w m n .0 s) (opened users roles v rows) (opened users roles w rows) [] false
           (start users roles v rows p) (start users roles w rows q);
       events = λ s rows p q ws rooms rooms′ l l′.
-          same-lines users roles v w rows p q (related users roles v w m n .0 s) ws rooms rooms′ l l′ (fresh users roles v rows) (fresh users roles w rows) [] false
+          same-lines users roles v w rows p q (related users roles v w m n .0 s) ws rooms rooms′ l l′ (opened users roles v rows) (opened users roles w rows) [] false
           (start users roles v rows p) (start users roles w rows q);
     }

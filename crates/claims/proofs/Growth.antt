@@ -27,8 +27,9 @@ use Rattle.workspace.specs.declared.Action.{Action as Taken}
 use Rattle.monitor.specs.declared.Instance.{Instance}
 use Rattle.monitor.specs.declared.Event.{Event as Request}
 use Rattle.monitor.specs.declared.Event.the-variants.{Acts, Grants, Revokes, Closes, Malformed}
-use Rattle.monitor.specs.Instances.{openCode, fresh, policyOf, rowsOf, takenOf, term, notedFor, withAction, withGrant, withoutGrant, asClosed, wellFormed as wellFormedInstance}
+use Rattle.monitor.specs.Instances.{openCode, fresh, opening, policyOf, rowsOf, takenOf, term, notedFor, withAction, withGrant, withoutGrant, asClosed, wellFormed as wellFormedInstance}
 use Rattle.monitor.specs.Events.{isMalformed, satisfies, isPossible, tried, ownRefusals, eventRefusals, applied}
+use Rattle.claims.specs.Runs.{opened}
 use Rattle.monitor.proofs.Reading.{Declared}
 use Rattle.monitor.proofs.Formed.{Formed, formed as is-well-formed, is-formed, one-each, opens-read, opens-rows}
 use Rattle.monitor.proofs.Fillable.{taken-more}
@@ -131,9 +132,9 @@ module _ (users roles : ℕ) (words rows : List ℕ) (p : openCode users roles w
     pub below : So (actedBelow users t)
     pub fits : So (isPossible φ (takenOf i))
 
-  pub start : Follows (fresh users roles words rows) [] false
+  start-fresh : Follows (fresh users roles words rows) [] false
   unfolding fresh
-  start = record {
+  start-fresh = record {
     places = refl;
     isFormed = is-well-formed (fresh users roles words rows) (opened-is-well-formed users roles words rows p);
     same-users = refl;
@@ -145,6 +146,10 @@ module _ (users roles : ℕ) (words rows : List ℕ) (p : openCode users roles w
     below = refl;
     fits = empty-set Taken (λ a. a .user) (λ ψ j a. bit j (a .met)) true φ 0;
   }
+
+  pub start : Follows (opened users roles words rows) [] false
+  unfolding opening
+  start = rw p start-fresh
 
   module _ (i : Instance) (t : Trace) (c : Bool) (f : Follows i t c) where
     pub same-term : term i ≡ φ

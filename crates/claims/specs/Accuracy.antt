@@ -17,11 +17,11 @@ use Rattle.monitor.specs.declared.Instance.{Instance}
 use Rattle.monitor.specs.declared.Event.the-variants.{Closes}
 use Rattle.monitor.specs.declared.Status.the-variants.{Complete}
 use Rattle.monitor.specs.declared.Verdict.the-variants.{Yes}
-use Rattle.monitor.specs.Instances.{openCode, fresh}
+use Rattle.monitor.specs.Instances.{openCode}
 use Rattle.monitor.specs.Events.{readEvent, isMalformed, outcome}
 use Rattle.monitor.specs.Statuses.{statusOf}
 use Rattle.monitor.specs.MultisetTest.{listed, testCode, verdict}
-use Rattle.claims.specs.Runs.{Rooms, Long, grown, history, symbolOf}
+use Rattle.claims.specs.Runs.{opened, Rooms, Long, grown, history, symbolOf}
 
 -- an opening answered 0, then any list of words as events, with workspaces long enough
 pub record Run : Type 0 where
@@ -29,7 +29,7 @@ pub record Run : Type 0 where
   pub roles : ℕ
   pub words : List ℕ
   pub rows : List ℕ
-  pub opened : openCode users roles words rows ≡ 0
+  pub accepts : openCode users roles words rows ≡ 0
   pub events : List ℕ
   pub rooms : Rooms
   pub long : Long rooms
@@ -39,10 +39,10 @@ policy r = termOf (decode (r .words))
 
 -- the instance that the run leaves, and the run of its accepted events
 abbrev pub final : Run → Instance
-final r = grown (fresh (r .users) (r .roles) (r .words) (r .rows)) (r .events) (r .rooms)
+final r = grown (opened (r .users) (r .roles) (r .words) (r .rows)) (r .events) (r .rooms)
 
 abbrev pub accepted : Run → List Symbol
-accepted r = history (fresh (r .users) (r .roles) (r .words) (r .rows)) (r .events) (r .rooms)
+accepted r = history (opened (r .users) (r .roles) (r .words) (r .rows)) (r .events) (r .rooms)
 
 -- the trace of a run without its closing event
 abbrev pub traceOf : List Symbol → Trace

@@ -9,9 +9,9 @@ use Rattle.soda.specs.Steps.{WordSteps}
 use Rattle.policy.specs.Refusals.{code}
 use Rattle.policy.specs.Reading.{refusals}
 use Rattle.normal.specs.NormalForms.{normalOut}
-use Rattle.monitor.specs.Instances.{openCode, fresh}
+use Rattle.monitor.specs.Instances.{openCode}
 use Rattle.monitor.specs.Statuses.{statusOf}
-use Rattle.claims.specs.Runs.{Rooms, Long, lines}
+use Rattle.claims.specs.Runs.{opened, Rooms, Long, lines}
 
 -- a policy is accepted when none of 5 and 1 to 4 applies
 abbrev pub IsAccepted : ℕ → ℕ → List ℕ → Type 0
@@ -29,10 +29,10 @@ pub record Alike (users roles : ℕ) (v w : List ℕ) : Type 0 where
       → (normal users roles v out ≡ normal users roles w out′) ↔ WordSteps v w
   pub status : WordSteps v w → (rows : List ℕ) → openCode users roles v rows ≡ 0 → openCode users roles w rows ≡ 0
       → (room room′ : List ℕ) → 8192 ≤ length room → 8192 ≤ length room′
-      → statusOf (fresh users roles v rows) room ≡ statusOf (fresh users roles w rows) room′
+      → statusOf (opened users roles v rows) room ≡ statusOf (opened users roles w rows) room′
   pub events : WordSteps v w → (rows : List ℕ) → openCode users roles v rows ≡ 0 → openCode users roles w rows ≡ 0
       → (ws : List ℕ) (rooms rooms′ : Rooms) → Long rooms → Long rooms′
-      → lines (fresh users roles v rows) ws rooms ≡ lines (fresh users roles w rows) ws rooms′
+      → lines (opened users roles v rows) ws rooms ≡ lines (opened users roles w rows) ws rooms′
 
 abbrev pub EqualForms : Type 0
 EqualForms = (users roles : ℕ) (v w : List ℕ) → IsAccepted users roles v → IsAccepted users roles w → Alike users roles v w

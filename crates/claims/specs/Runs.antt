@@ -10,8 +10,13 @@ use Rattle.monitor.specs.declared.Instance.{Instance}
 use Rattle.monitor.specs.declared.Status.{Status}
 use Rattle.monitor.specs.declared.Event.{Event}
 use Rattle.monitor.specs.declared.Event.the-variants.{Acts, Grants, Revokes, Closes, Malformed}
+use Rattle.monitor.specs.Instances.{opening}
 use Rattle.monitor.specs.Events.{readEvent, outcome}
 use Rattle.monitor.specs.Statuses.{statusOf}
+
+-- each sheet starts as its opening returned it
+abbrev pub opened : ℕ → ℕ → List ℕ → List ℕ → Instance
+opened users roles words rows = opening users roles words rows .instance
 
 -- The workspaces lent to the calls of a run, one after the other: every call may have its own, long enough, with whatever contents.
 abbrev pub Rooms : Type 0
