@@ -87,7 +87,7 @@ length-begins (begins4 e b) = omega (arith, length-begins b)
 length-begins (begins5 e b) = omega (arith, length-begins b)
 length-begins (beginsOp e b c) = omega (arith, length-begins b, length-begins c)
 
-drop-begins : {ws rest : List ℕ} {φ : Term} → Begins ws φ rest → drop (size φ) ws ≡ rest
+pub drop-begins : {ws rest : List ℕ} {φ : Term} → Begins ws φ rest → drop (size φ) ws ≡ rest
 drop-begins (begins1 e) = refl
 drop-begins (begins2 e) = refl
 drop-begins (begins3 e) = refl

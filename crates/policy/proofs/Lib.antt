@@ -3,6 +3,6 @@ pub mod Masks
 pub mod Grammar
 pub mod Sides
 pub mod Scanning
-pub mod Shaped
+pub mod Ends
 pub mod Accepted
 pub mod Examples

@@ -15,7 +15,7 @@ digit-lt : (b : Bool) → cond b 1 0 < 2
 digit-lt true = omega arith
 digit-lt false = omega arith
 
-pub number-lt : (l : List Bool) → number l < 2 ^ length l
+number-lt : (l : List Bool) → number l < 2 ^ length l
 number-lt [] = omega arith
 number-lt (b ∷ l) = omega (arith, digit-lt b, number-lt l, pow-suc 2 (length l))
 

@@ -17,7 +17,7 @@ use Rattle.soda.proofs.Terms.{subterms-length}
 use Rattle.soda.proofs.Words.{tag}
 use Rattle.policy.specs.Words.{kindOf, head, tail, push}
 use Rattle.policy.specs.Shapes.{isPlus, isOp}
-use Rattle.policy.specs.Scans.{meetsLeaf, meetsSides, maskOf, noSide, aboveOf, leafOf, overOf, besideOf, rightAt, facts, scanned}
+use Rattle.policy.specs.Scans.{meetsLeaf, meetsSides, maskOf, noSide, aboveOf, leafOf, overOf, besideOf, facts, scanned}
 use Rattle.policy.specs.declared.Facts.{Facts}
 use Rattle.policy.specs.declared.Found.the-variants.{Whole}
 use Rattle.policy.proofs.Masks.{mask-is}
@@ -121,10 +121,9 @@ module _ (u h : ℕ) where
         ∙ mask-is (f φ) (map f ts) (map f us) (omega (arith, fit, length-map ts f, length-map us f))
         ∙ ap number (ap (λ l. f φ ∷ l) (sym (map-append f ts us)) ∙ ap (map f) (sym terms))
 
-    above-is : rightAt φ 0 ≡ 1 + a .words → aboveOf (tag φ) (unit φ) (wellFormed φ) (meets φ u h) a b ≡ facts u h φ
-    above-is right = λ i. record {
+    above-is : aboveOf (tag φ) (unit φ) (wellFormed φ) (meets φ u h) a b ≡ facts u h φ
+    above-is = λ i. record {
       words = words i;
-      right = sym right i;
       unit = unit φ;
       formed = wellFormed φ;
       met = meets φ u h;
@@ -142,14 +141,14 @@ module _ (u h : ℕ) where
 
   -- ── by the kind of the first word ──
   pub leaf-is : {k : ℕ} → Row k 0 → (x : ℕ) (ts : List (Option Term)) → Whole (leafOf k (meetsLeaf k x u h)) ≡ scanned u h (head (push (kindOf k) x ts))
-  leaf-is row1 x ts = ap Whole (above-is everyone noSide noSide [] [] over-none over-none refl (omega arith) refl)
-  leaf-is row2 x ts = ap Whole (above-is (role x) noSide noSide [] [] over-none over-none refl (omega arith) refl)
-  leaf-is row3 x ts = ap Whole (above-is (set x) noSide noSide [] [] over-none over-none refl (omega arith) refl)
+  leaf-is row1 x ts = ap Whole (above-is everyone noSide noSide [] [] over-none over-none refl (omega arith))
+  leaf-is row2 x ts = ap Whole (above-is (role x) noSide noSide [] [] over-none over-none refl (omega arith))
+  leaf-is row3 x ts = ap Whole (above-is (set x) noSide noSide [] [] over-none over-none refl (omega arith))
 
   pub one-is : {k : ℕ} → Row k 1 → (x : ℕ) (ts : List (Option Term)) (φ : Term) → size φ ≤ 30 → head ts ≡ some φ
       → Whole (overOf k (facts u h φ)) ≡ scanned u h (head (push (kindOf k) x ts))
-  one-is row4 x ts φ s e = rw e (ap Whole (above-is (¬ᵗ φ) noSide (facts u h φ) [] (subterms φ) over-none (over-term φ) refl (omega arith) refl))
-  one-is row5 x ts φ s e = rw e (ap Whole (above-is (φ ⁺) noSide (facts u h φ) [] (subterms φ) over-none (over-term φ) refl (omega arith) refl))
+  one-is row4 x ts φ s e = rw e (ap Whole (above-is (¬ᵗ φ) noSide (facts u h φ) [] (subterms φ) over-none (over-term φ) refl (omega arith)))
+  one-is row5 x ts φ s e = rw e (ap Whole (above-is (φ ⁺) noSide (facts u h φ) [] (subterms φ) over-none (over-term φ) refl (omega arith)))
 
   unit-op : (op : Op) → ltb (opKind op) 8 ≡ unitOp op
   unit-op either = refl
@@ -168,4 +167,4 @@ module _ (u h : ℕ) where
       → Whole (besideOf k (facts u h φ) (facts u h ψ)) ≡ scanned u h (head (push (kindOf k) x ts))
   two-is (rowOp op) x ts φ ψ s e d =
       rw (push-op op, e, d, unit-op op, meets-op op)
-      (ap Whole (above-is (bin op φ ψ) (facts u h φ) (facts u h ψ) (subterms φ) (subterms ψ) (over-term φ) (over-term ψ) refl (omega arith) refl))
+      (ap Whole (above-is (bin op φ ψ) (facts u h φ) (facts u h ψ) (subterms φ) (subterms ψ) (over-term φ) (over-term ψ) refl (omega arith)))

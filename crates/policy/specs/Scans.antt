@@ -1,16 +1,17 @@
 -- What the crate's own functions answer: tests of one word, and what the scan finds of the first term of some words.
+use mathlib.Core.Path.{_≡_}
 use mathlib.Core.Bool.{Bool, true, false, not, _&&_, _||_, cond}
-use mathlib.Core.List.{List, [], _∷_}
+use mathlib.Core.List.{List}
 use mathlib.Core.Option.{Option, some, none}
 use Prim.Native.Nat.{ℕ, _+_, _*_, _%_, _^_}
 use lib.Bits.{bitOr}
 use lib.Dec.{leb, ltb, eqb}
 use Rattle.soda.specs.Bits.{bit}
-use Rattle.soda.specs.Terms.{either, both, together, apart, Term, everyone, role, set, ¬ᵗ_, _⁺, bin, unit, wellFormed, size, marks}
+use Rattle.soda.specs.Terms.{either, both, together, apart, Term, unit, wellFormed, size, marks}
 use Rattle.soda.specs.Roles.{meets}
 use Rattle.soda.specs.Tables.{metBits}
-use Rattle.policy.specs.Words.{first}
-use Rattle.policy.specs.Shapes.{isPlus, isOp}
+use Rattle.policy.specs.Words.{decode}
+use Rattle.policy.specs.Shapes.{isPlus, isOp, rightSides, padded}
 use Rattle.policy.specs.declared.Facts.{Facts}
 use Rattle.policy.specs.declared.Found.{Found}
 use Rattle.policy.specs.declared.Found.the-variants.{Whole, Missing}
@@ -35,7 +36,6 @@ maskOf own a n b = bitOr (cond own 1 0) (bitOr a (b * 2 ^ n % 2 ^ 32) * 2 ^ 1 % 
 abbrev pub noSide : Facts
 noSide = record {
   words = 0;
-  right = 0;
   unit = false;
   formed = false;
   met = false;
@@ -52,7 +52,6 @@ noSide = record {
 abbrev pub aboveOf : ℕ → Bool → Bool → Bool → Facts → Facts → Facts
 aboveOf k u f m a b = record {
   words = 1 + (a .words + b .words);
-  right = 1 + a .words;
   unit = u;
   formed = f;
   met = m;
@@ -75,20 +74,10 @@ abbrev pub besideOf : ℕ → Facts → Facts → Facts
 besideOf k a b =
     aboveOf k (ltb k 8 && (a .unit && b .unit)) (a .formed && b .formed) (meetsSides k (a .met) (b .met)) a b
 
--- where a term's right side begins, its first word standing at i; one past the word where it has none
-abbrev pub rightAt : Term → ℕ → ℕ
-rightAt everyone i = 1 + i
-rightAt (role r) i = 1 + i
-rightAt (set m) i = 1 + i
-rightAt (¬ᵗ φ) i = 1 + i
-rightAt (φ ⁺) i = 1 + i
-rightAt (bin op φ ψ) i = 1 + i + size φ
-
 -- what the scan finds of a term, for a user u who holds the roles of the set h
 abbrev pub facts : ℕ → ℕ → Term → Facts
 facts u h φ = record {
   words = size φ;
-  right = rightAt φ 0;
   unit = unit φ;
   formed = wellFormed φ;
   met = meets φ u h;
@@ -105,11 +94,6 @@ abbrev pub scanned : ℕ → ℕ → Option Term → Found
 scanned u h none = Missing
 scanned u h (some φ) = Whole (facts u h φ)
 
--- the same for a term that may be missing, and for the term at each of the words, the first of which stands at i
-abbrev pub rightOf : ℕ → Option Term → ℕ
-rightOf i none = 0
-rightOf i (some φ) = rightAt φ i
-
-abbrev pub rightsFrom : ℕ → List ℕ → List ℕ
-rightsFrom i [] = []
-rightsFrom i (w ∷ ws) = rightOf i (first (w ∷ ws)) ∷ rightsFrom (1 + i) ws
+-- r has the places where right sides begin in the one term that the words are, if they are one
+abbrev pub RightsOf : List ℕ → List ℕ → Type 0
+RightsOf ws r = (φ : Term) → decode ws ≡ some φ → r ≡ padded 31 (rightSides 0 φ)

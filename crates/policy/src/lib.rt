@@ -8,8 +8,8 @@ ghost use Rattle.soda.specs.Bits.{bit};
 ghost use Rattle.soda.specs.Lists.{all};
 ghost use Rattle.policy.specs.Words.{kind, operand, sides, operandOk, wordOk, first, decode};
 ghost use Rattle.policy.specs.Reading.{countOk, lengthOk, numberOf, readPolicy, metOf};
-ghost use Rattle.policy.specs.Shapes.{padded, shapeIn, shapeOf};
-ghost use Rattle.policy.specs.Scans.{known, meetsLeaf, maskOf, aboveOf, leafOf, overOf, besideOf, scanned, rightOf, rightsFrom};
+ghost use Rattle.policy.specs.Shapes.{shapeIn, shapeOf};
+ghost use Rattle.policy.specs.Scans.{known, meetsLeaf, maskOf, aboveOf, leafOf, overOf, besideOf, scanned, RightsOf};
 
 // A policy read (document 01): its word count and the mask of the words that begin unit terms, or a number.
 pub enum PolicyRead {
@@ -29,12 +29,10 @@ pub struct Shape {
     pub right: [u8; 31],
 }
 
-// What the scan finds of a term: its word count, where its right side begins (counted from its first word), whether it is a
-// unit term, well formed, and met by the user, and masks over its words: those that begin unit terms, the unit terms that the
-// user meets, and those of each other row of the table.
+// What the scan finds of a term: its word count, whether it is a unit term, well formed, and met by the user, and masks over its
+// words: those that begin unit terms, the unit terms that the user meets, and those of each other row of the table.
 struct Facts {
     words: u8,
-    right: u8,
     unit: bool,
     formed: bool,
     met: bool,
@@ -59,7 +57,6 @@ const SIDES: [u8; 10] = [0, 0, 0, 0, 1, 1, 2, 2, 2, 2];
 // A side that is not there.
 const NO_SIDE: Facts = Facts {
     words: 0,
-    right: 0,
     unit: false,
     formed: false,
     met: false,
@@ -181,7 +178,7 @@ fn mask(own: bool, a: u32, n: u8, b: u32) -> u32
     own as u32 | ((a | (b << n)) << 1)
 }
 
-// A term of kind k from its sides. One side alone is the second, so that the right side always begins where the first ends.
+// A term of kind k from its sides; one side alone is the second.
 fn above(k: usize, unit: bool, formed: bool, met: bool, a: Facts, b: Facts) -> Facts
     requires { ⌜ a .words + b .words ≤ 30 ⌝ }
     ensures { λ r. ⌜ r ≡ aboveOf k unit formed met a b ⌝ }
@@ -189,7 +186,6 @@ fn above(k: usize, unit: bool, formed: bool, met: bool, a: Facts, b: Facts) -> F
     let n = a.words;
     Facts {
         words: 1 + (n + b.words),
-        right: 1 + n,
         unit,
         formed,
         met,
@@ -274,27 +270,24 @@ fn whole(words: &[u32], user: u8, held: u16) -> Found
     Found::Missing
 }
 
-// Where the right side of the first term begins, its first word standing at place i.
-fn right_of(words: &[u32], i: u8) -> u8
-    requires { ⌜ i + length (now words) ≤ 31 ⌝ }
-    ensures { λ r. ⌜ r ≡ rightOf i (first (now (words .entry))) ⌝ }
-{
-    let Found::Whole(t) = scan(words, 0, 0) else {
-        return 0;
-    };
-    i + t.right
-}
-
-// Where the right side begins of the term at each word.
+// Where the right side begins of the term at each word. Sides stand behind their word, so from the last word to the first it is
+// known where they end: end[i] is the place behind the term at word i.
 fn rights(words: &[u32]) -> [u8; 31]
     requires { ⌜ length (now words) ≤ 31 ⌝ }
-    ensures { λ r. ⌜ r ≡ padded 31 (rightsFrom 0 (now (words .entry))) ⌝ }
+    ensures { λ r. ⌜ RightsOf (now (words .entry)) r ⌝ }
 {
     let mut right = [0u8; 31];
-    let mut i: usize = 0;
-    while i < words.len() {
-        right[i] = right_of(&words[i..], i as u8);
-        i += 1;
+    let mut end = [0u8; 32];
+    let mut i = words.len();
+    while 0 < i {
+        let next = i as u8;
+        let first_end = end[i];
+        i -= 1;
+        let n = sides_of(kind_of(words[i]));
+        let side = if n == 2 { first_end } else { next };
+        let side_end = end[side as usize];
+        right[i] = side;
+        end[i] = if n == 0 { next } else { side_end };
     }
     right
 }

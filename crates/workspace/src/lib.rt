@@ -14,6 +14,7 @@ ghost use Rattle.workspace.specs.Workspace.{filled, fillOf};
 use policy::Shape;
 
 // A taken action (document 01): its user, and bit i of met for whether the user met the unit term at word i.
+#[repr(C)]
 pub struct Action {
     pub user: u8,
     pub met: u32,

@@ -9,9 +9,6 @@ add-t8 c = search needs
 add-t9 : tie.Need-add-t9
 add-t9 c = search needs
 
-add-t10 : tie.Need-add-t10
-add-t10 c = search needs
-
 mask-requires : tie.Need-mask-requires
 mask-requires c κs = search needs
 
@@ -51,7 +48,6 @@ above-spec =
     (tie.spec
     add-t8
     add-t9
-    add-t10
     mask-requires
     mask-requires-2
     mask-requires-3

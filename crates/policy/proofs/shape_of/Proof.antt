@@ -10,13 +10,12 @@ use borrow.Author.Tests.{not-true, not-false}
 use Rattle.soda.specs.Terms.{Term}
 use Rattle.policy.specs.Words.{decode}
 use Rattle.policy.specs.Reading.{lengthOk}
-use Rattle.policy.specs.Shapes.{padded, blankShape, shapeIn, shapeOf}
-use Rattle.policy.specs.Scans.{rightsFrom, scanned}
+use Rattle.policy.specs.Shapes.{blankShape, shapeIn, shapeOf}
+use Rattle.policy.specs.Scans.{scanned, RightsOf}
 use Rattle.policy.specs.declared.Facts.{Facts}
 use Rattle.policy.specs.declared.Found.the-variants.{Whole}
 use Rattle.policy.specs.declared.Shape.{Shape}
 use Rattle.policy.proofs.Scanning.{length-most, by-term, missing}
-use Rattle.policy.proofs.Shaped.{rights-whole}
 use Rattle.policy.proofs.shape_of.Statement.{statement}
 use Rattle.policy.proofs.shape_of.Tie as tie
 
@@ -32,10 +31,11 @@ shaped t right = record {
   right = right;
 }
 
-is-shape : (ws : List ℕ) (t : Facts) → scanned 0 0 (decode ws) ≡ Whole t → t .formed ≡ true → shaped t (padded 31 (rightsFrom 0 ws)) ≡ shapeIn (decode ws)
-is-shape ws t e =
-    by-term 0 0 (λ (x : Option Term) (t : Facts). decode ws ≡ x → t .formed ≡ true → shaped t (padded 31 (rightsFrom 0 ws)) ≡ shapeIn x)
-    (λ φ d f. rw (rights-whole ws φ d, f)) (decode ws) t e refl
+is-shape : (ws right : List ℕ) (t : Facts) → RightsOf ws right → scanned 0 0 (decode ws) ≡ Whole t → t .formed ≡ true
+    → shaped t right ≡ shapeIn (decode ws)
+is-shape ws right t r e =
+    by-term 0 0 (λ (x : Option Term) (t : Facts). decode ws ≡ x → t .formed ≡ true → shaped t right ≡ shapeIn x)
+    (λ φ d f. rw (r φ d, f)) (decode ws) t e refl
 
 no-shape-of : (ws : List ℕ) (t : Facts) → scanned 0 0 (decode ws) ≡ Whole t → t .formed ≡ false → blankShape ≡ shapeIn (decode ws)
 no-shape-of ws t e = by-term 0 0 (λ x t. t .formed ≡ false → blankShape ≡ shapeIn x) (λ φ f. rw f) (decode ws) t e
@@ -103,7 +103,8 @@ returns-4 c =
     let e = c .before .before .before in
     let t = e .before .t .given .0 .0 in
     let ws = e .before .before .before .before .before .before .before .args .words .now in
-    rw (c .rights .ensures, long (e .before .before .before .before)) (is-shape ws t (term e) (not-false (t .formed) (c .before .if2 .left)))
+    rw (long (e .before .before .before .before))
+    (is-shape ws (c .rights .result) t (c .rights .ensures) (term e) (not-false (t .formed) (c .before .if2 .left)))
 
 pub shape-of-spec : {M : Type 1} → statement M
 shape-of-spec =

@@ -1,0 +1,23 @@
+-- The byte of what the status is; the workspace is as the status call leaves it.
+use mathlib.Core.Path.{ap, _∙_}
+use Rattle.embed.specs.Bytes.{statusByte}
+use borrow.Author.Needs.{needs}
+use Rattle.embed.proofs.status_of.Statement.{statement}
+use Rattle.embed.proofs.status_of.Tie as tie
+
+status-requires : tie.Need-status-requires
+status-requires c κs = search needs
+
+status-byte-requires : tie.Need-status-byte-requires
+status-byte-requires c κs = search needs
+
+same-length : tie.Need-same-length
+same-length c = search needs
+
+returns : tie.Need-returns
+returns c =
+    let s = c .before .before .before in
+    (c .status-byte .ensures ∙ ap statusByte (s .status .ensures .0), s .status .ensures .1)
+
+pub status-of-spec : {M : Type 1} → statement M
+status-of-spec = tie.close (tie.spec status-requires status-byte-requires same-length returns)

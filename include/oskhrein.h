@@ -1,0 +1,174 @@
+/*
+ * Oskhrein, the separation-of-duty monitor, as a desk program links it: libembed.a.
+ *
+ * A call keeps no state and allocates nothing; it reads and writes only what it is lent. Every answer is one byte.
+ *
+ * The caller owes, for every call:
+ * - Each pointer is aligned, not null, and valid for its length, which counts elements and follows the pointer; an array of length 0
+ *   needs a pointer too. What one call is lent does not overlap.
+ * - An instance is initialised, and its `closed` is 0 or 1. Zeroed memory is such an instance. oskhrein_open needs it too, though it
+ *   replaces what it finds.
+ * - Nobody else writes what a call is lent while it runs. Calls on separate memory may run at the same time.
+ *
+ * Everything else may be wrong: the call then answers a number.
+ */
+#ifndef OSKHREIN_H
+#define OSKHREIN_H
+
+#include <stddef.h>
+#include <stdint.h>
+
+#ifdef __cplusplus
+extern "C" {
+#endif
+
+/* The numbers, by who causes them. */
+enum {
+    OSKHREIN_ACCEPTED = 0,
+
+    /* Policy author. */
+    OSKHREIN_WORD_COUNT = 1, /* no word, or more than 31 */
+    OSKHREIN_WORD = 2,       /* some word is not in the layout, names a role or user not declared, or is an empty set */
+    OSKHREIN_TERM = 3,       /* the words are not exactly one term */
+    OSKHREIN_UNIT = 4,       /* not or plus over a term that is no unit term */
+
+    /* Personnel desk. */
+    OSKHREIN_COUNTS = 5, /* users or roles not 1 to 16 */
+    OSKHREIN_ROWS = 6,   /* role rows not one a user, or a role not declared */
+
+    /* Clerk who sends events or multisets. */
+    OSKHREIN_MALFORMED = 7,      /* event word out of layout, or user or role not declared; a count above 0 for a user not declared */
+    OSKHREIN_FULL = 8,           /* twelve actions taken already; a multiset of more than twelve */
+    OSKHREIN_NOT_POSSIBLE = 9,   /* the actions with this one are not possible */
+    OSKHREIN_CLOSED = 10,        /* the instance is closed */
+    OSKHREIN_NOT_SATISFIED = 11, /* close, but the taken actions do not satisfy */
+
+    /* Program that calls. */
+    OSKHREIN_WORKSPACE = 12, /* workspace below 8,192 words */
+    OSKHREIN_OUTPUT = 13,    /* output shorter than the policy */
+    OSKHREIN_CASE = 14,      /* case file malformed; no call of this header reads one */
+    OSKHREIN_INSTANCE = 15   /* instance malformed: see oskhrein_event */
+};
+
+/* The letters, which are no numbers of refusals. */
+enum {
+    OSKHREIN_STATUS_CLOSED = 'd',
+    OSKHREIN_STATUS_COMPLETE = 'c', /* not closed, and the taken actions satisfy the policy */
+    OSKHREIN_STATUS_OPEN = 'o',
+    OSKHREIN_YES = 'y',
+    OSKHREIN_NO = 'n'
+};
+
+/* Lengths. */
+enum {
+    OSKHREIN_MAX_WORDS = 31,
+    OSKHREIN_MAX_USERS = 16,
+    OSKHREIN_MAX_ACTIONS = 12,
+    OSKHREIN_WORKSPACE_WORDS = 8192
+};
+
+/* A taken action. Bit i of met: its user met the unit term that begins at policy word i when the action was taken. */
+struct oskhrein_action {
+    uint8_t user;
+    uint32_t met;
+};
+
+/* An instance: the policy and its word count, the counts, the roles that each user holds (bit r for role r), the taken actions in
+ * order of arrival and their number, and the closed mark. What is unused is zero. */
+struct oskhrein_instance {
+    uint32_t policy[OSKHREIN_MAX_WORDS];
+    uint8_t words;
+    uint8_t users;
+    uint8_t roles;
+    uint16_t user_roles[OSKHREIN_MAX_USERS];
+    struct oskhrein_action actions[OSKHREIN_MAX_ACTIONS];
+    uint8_t taken;
+    uint8_t closed; /* 0 or 1 */
+};
+
+/*
+ * The workspace: at least OSKHREIN_WORKSPACE_WORDS words. Where a call fills it, it speaks of n actions, bit j of a mask standing for
+ * the one at place j, from 0. Word s, for each s below 2^n, holds in bit i whether the set with mask s satisfies the term at policy
+ * word i; word 4096 + s holds the same for possible. Bits past the policy and the other words below 8,192 are zero. Words from 8,192
+ * on keep what they had.
+ */
+
+/*
+ * Opens an instance under a policy of n_words words, with one row of roles for each user.
+ *
+ * The policy is one term in prefix order: a word, then its sides. The kind is in bits 24 to 31 of a word, the operand in bits 0 to 15,
+ * and bits 16 to 23 are zero: 1 everyone, 2 a role (its number), 3 a set (a mask of users), 4 not and 5 plus (one side), 6 either,
+ * 7 both, 8 together and 9 apart (two sides). The operand of the others is 0.
+ *
+ * Answers OSKHREIN_ACCEPTED, or the first that applies of OSKHREIN_COUNTS, OSKHREIN_WORD_COUNT, OSKHREIN_WORD, OSKHREIN_TERM,
+ * OSKHREIN_UNIT, OSKHREIN_ROWS.
+ *
+ * Leaves in *instance what was opened: the policy, the counts and the rows, zeros behind them, no action, and not closed. A refusal
+ * leaves the blank instance there, all zero. words and rows are only read.
+ */
+uint8_t oskhrein_open(struct oskhrein_instance *instance, uint8_t users, uint8_t roles, const uint32_t *words, size_t n_words,
+                      const uint16_t *rows, size_t n_rows);
+
+/*
+ * One event on an instance. The kind is in bits 24 to 31 of its word, bits 16 to 23 are zero, the user is in bits 8 to 15:
+ *   1 action    bits 0 to 7 are the action's number, any value, not judged or kept
+ *   2 grant     bits 0 to 7 are a role; one held already is accepted and alters nothing
+ *   3 revoke    bits 0 to 7 are a role; one not held is accepted and alters nothing
+ *   4 close     all other bits are zero
+ *
+ * Answers OSKHREIN_ACCEPTED, or the first that applies of
+ *   OSKHREIN_WORKSPACE      n_workspace below 8,192
+ *   OSKHREIN_INSTANCE       the instance's policy, counts or rows would be refused; above twelve actions; an action by a user not
+ *                           declared, or with a bit at a word that begins no unit term; an unused place, policy word or row not zero
+ *   OSKHREIN_CLOSED         whatever the word is
+ *   OSKHREIN_MALFORMED
+ *   OSKHREIN_FULL           an action only
+ *   OSKHREIN_NOT_POSSIBLE   an action only
+ *   OSKHREIN_NOT_SATISFIED  a close only
+ *
+ * Leaves in *instance, where it answers 0, the one part that the event alters: an action the next place and their number, a grant or
+ * revocation one bit, a close the mark. Any other answer leaves *instance as it was.
+ *
+ * Leaves the workspace filled for the taken actions with the tried one after an action answered 0 or 9, and for the taken actions
+ * after a close answered 0 or 11. After any other event or answer it is as it was.
+ */
+uint8_t oskhrein_event(struct oskhrein_instance *instance, uint32_t word, uint32_t *workspace, size_t n_workspace);
+
+/*
+ * The status of an instance.
+ *
+ * Answers OSKHREIN_WORKSPACE or OSKHREIN_INSTANCE, the first that applies, as oskhrein_event does; else OSKHREIN_STATUS_CLOSED if it
+ * is closed, else OSKHREIN_STATUS_COMPLETE if the taken actions satisfy the policy, else OSKHREIN_STATUS_OPEN.
+ *
+ * Leaves the workspace filled for the taken actions; a refusal leaves it as it was. *instance is only read.
+ */
+uint8_t oskhrein_status(const struct oskhrein_instance *instance, uint32_t *workspace, size_t n_workspace);
+
+/*
+ * Whether a multiset of users satisfies a policy: user u occurs counts[u] times. The empty multiset does not.
+ *
+ * Answers OSKHREIN_YES or OSKHREIN_NO, or the first that applies of OSKHREIN_WORKSPACE, the refusals of oskhrein_open in its order,
+ * OSKHREIN_MALFORMED (a count above 0 for a user not declared), OSKHREIN_FULL (more than twelve in all).
+ *
+ * Leaves the workspace filled for the multiset's actions, in some order of them; a refusal leaves it as it was. words, rows and counts
+ * are only read.
+ */
+uint8_t oskhrein_satisfies(uint8_t users, uint8_t roles, const uint32_t *words, size_t n_words, const uint16_t *rows, size_t n_rows,
+                           const uint8_t counts[OSKHREIN_MAX_USERS], uint32_t *workspace, size_t n_workspace);
+
+/*
+ * Writes the normal form of a policy: policies that differ only in the order or the grouping of operands have the same one.
+ *
+ * Answers OSKHREIN_ACCEPTED, or the first that applies of OSKHREIN_COUNTS, OSKHREIN_WORD_COUNT, OSKHREIN_WORD, OSKHREIN_TERM,
+ * OSKHREIN_UNIT, OSKHREIN_OUTPUT (n_out below n_words).
+ *
+ * Leaves the normal form in the first n_words words of out; the rest of out, and after a refusal all of it, is as it was. words is
+ * only read.
+ */
+uint8_t oskhrein_normal_form(uint8_t users, uint8_t roles, const uint32_t *words, size_t n_words, uint32_t *out, size_t n_out);
+
+#ifdef __cplusplus
+}
+#endif
+
+#endif

@@ -1,0 +1,214 @@
+/* Document 01's listing L and settled examples through the C header and the static library. */
+#include "oskhrein.h"
+
+#include <stddef.h>
+#include <stdint.h>
+#include <stdio.h>
+#include <string.h>
+
+static int passed;
+static int failed;
+
+static void check(int ok, const char *what)
+{
+    if (ok) {
+        passed++;
+        return;
+    }
+    failed++;
+    printf("failed: %s\n", what);
+}
+
+#define CHECK(ok) check((ok), #ok)
+
+/* One word past the end, which every call must keep. */
+static uint32_t workspace[OSKHREIN_WORKSPACE_WORDS + 1];
+#define GUARD 0xa5a5a5a5u
+
+static const uint32_t POLICY_F[] = {0x08000000, 0x09000000, 0x02000000, 0x06000000, 0x02000002,
+                                    0x09000000, 0x02000000, 0x02000000, 0x05000000, 0x01000000};
+#define WORDS_F (sizeof POLICY_F / sizeof *POLICY_F)
+
+static const uint16_t ROWS_L[] = {2, 1, 0};
+
+static void fill_workspace(uint32_t value)
+{
+    for (size_t i = 0; i <= OSKHREIN_WORKSPACE_WORDS; i++) {
+        workspace[i] = value;
+    }
+}
+
+static int workspace_is(uint32_t value)
+{
+    for (size_t i = 0; i <= OSKHREIN_WORKSPACE_WORDS; i++) {
+        if (workspace[i] != value) {
+            return 0;
+        }
+    }
+    return 1;
+}
+
+static int same(const struct oskhrein_instance *a, const struct oskhrein_instance *b)
+{
+    if (memcmp(a->policy, b->policy, sizeof a->policy) != 0 || memcmp(a->user_roles, b->user_roles, sizeof a->user_roles) != 0) {
+        return 0;
+    }
+    for (size_t i = 0; i < OSKHREIN_MAX_ACTIONS; i++) {
+        if (a->actions[i].user != b->actions[i].user || a->actions[i].met != b->actions[i].met) {
+            return 0;
+        }
+    }
+    return a->words == b->words && a->users == b->users && a->roles == b->roles && a->taken == b->taken && a->closed == b->closed;
+}
+
+static uint8_t open_l(struct oskhrein_instance *instance)
+{
+    return oskhrein_open(instance, 3, 3, POLICY_F, WORDS_F, ROWS_L, 3);
+}
+
+static void layout(void)
+{
+    CHECK(sizeof(struct oskhrein_action) == 8);
+    CHECK(offsetof(struct oskhrein_action, met) == 4);
+    CHECK(sizeof(struct oskhrein_instance) == 260);
+    CHECK(offsetof(struct oskhrein_instance, policy) == 0);
+    CHECK(offsetof(struct oskhrein_instance, words) == 124);
+    CHECK(offsetof(struct oskhrein_instance, users) == 125);
+    CHECK(offsetof(struct oskhrein_instance, roles) == 126);
+    CHECK(offsetof(struct oskhrein_instance, user_roles) == 128);
+    CHECK(offsetof(struct oskhrein_instance, actions) == 160);
+    CHECK(offsetof(struct oskhrein_instance, taken) == 256);
+    CHECK(offsetof(struct oskhrein_instance, closed) == 257);
+}
+
+/* The opened instance, field by field: what the library writes is what the header reads. */
+static void opening(void)
+{
+    static const struct oskhrein_instance blank;
+    struct oskhrein_instance want = blank;
+    struct oskhrein_instance instance;
+
+    memcpy(want.policy, POLICY_F, sizeof POLICY_F);
+    memcpy(want.user_roles, ROWS_L, sizeof ROWS_L);
+    want.words = WORDS_F;
+    want.users = 3;
+    want.roles = 3;
+    memset(&instance, 1, sizeof instance);
+    CHECK(open_l(&instance) == OSKHREIN_ACCEPTED);
+    CHECK(same(&instance, &want));
+
+    CHECK(oskhrein_open(&instance, 17, 3, POLICY_F, WORDS_F, ROWS_L, 3) == OSKHREIN_COUNTS);
+    CHECK(same(&instance, &blank));
+    CHECK(open_l(&instance) == OSKHREIN_ACCEPTED);
+    CHECK(oskhrein_open(&instance, 3, 3, POLICY_F, WORDS_F, ROWS_L, 2) == OSKHREIN_ROWS);
+    CHECK(same(&instance, &blank));
+    CHECK(oskhrein_open(&instance, 3, 3, POLICY_F, 0, ROWS_L, 3) == OSKHREIN_WORD_COUNT);
+    CHECK(oskhrein_open(&instance, 3, 2, POLICY_F, WORDS_F, ROWS_L, 3) == OSKHREIN_WORD);
+    CHECK(oskhrein_open(&instance, 3, 3, POLICY_F, WORDS_F - 1, ROWS_L, 3) == OSKHREIN_TERM);
+    static const uint32_t plus_over_together[] = {0x05000000, 0x08000000, 0x01000000, 0x01000000};
+    CHECK(oskhrein_open(&instance, 3, 3, plus_over_together, 4, ROWS_L, 3) == OSKHREIN_UNIT);
+}
+
+static void listing_l(void)
+{
+    static const uint32_t events[] = {0x01000001, 0x01000102, 0x02000102, 0x02000202, 0x04000000,
+                                      0x01000203, 0x01000004, 0x04000000, 0x01000004};
+    static const char *const want[] = {"1 0 o", "2 0 o", "3 0 o", "4 0 o", "5 11 o", "6 0 c", "7 0 c", "8 0 d", "9 10 d"};
+    struct oskhrein_instance instance = {0};
+    char line[32];
+
+    fill_workspace(GUARD);
+    check(open_l(&instance) == OSKHREIN_ACCEPTED, "listing L opens");
+    for (size_t i = 0; i < sizeof events / sizeof *events; i++) {
+        unsigned code = oskhrein_event(&instance, events[i], workspace, OSKHREIN_WORKSPACE_WORDS);
+        unsigned letter = oskhrein_status(&instance, workspace, OSKHREIN_WORKSPACE_WORDS);
+        snprintf(line, sizeof line, "%u %u %c", (unsigned)i + 1, code, (char)letter);
+        check(strcmp(line, want[i]) == 0, want[i]);
+    }
+    snprintf(line, sizeof line, "taken %u", (unsigned)instance.taken);
+    check(strcmp(line, "taken 4") == 0, "taken 4");
+    check(workspace[OSKHREIN_WORKSPACE_WORDS] == GUARD, "words from 8,192 on stay");
+    /* All four taken actions satisfy the policy, none of them satisfies it alone. */
+    CHECK((workspace[15] & 1) == 1);
+    CHECK((workspace[1] & 1) == 0 && (workspace[2] & 1) == 0 && (workspace[4] & 1) == 0 && (workspace[8] & 1) == 0);
+    CHECK(workspace[16] == 0 && workspace[4096 + 16] == 0);
+}
+
+static uint8_t satisfies_f(uint8_t first, uint8_t second, uint8_t third, uint8_t undeclared, size_t n_workspace)
+{
+    static const uint16_t rows[] = {2, 5, 4};
+    const uint8_t counts[OSKHREIN_MAX_USERS] = {first, second, third, undeclared};
+    return oskhrein_satisfies(3, 3, POLICY_F, WORDS_F, rows, 3, counts, workspace, n_workspace);
+}
+
+static void multisets(void)
+{
+    check(satisfies_f(2, 1, 1, 0, OSKHREIN_WORKSPACE_WORDS) == OSKHREIN_YES, "P2");
+    check(satisfies_f(1, 0, 1, 0, OSKHREIN_WORKSPACE_WORDS) == OSKHREIN_NO, "P3");
+    check(satisfies_f(1, 1, 0, 0, OSKHREIN_WORKSPACE_WORDS) == OSKHREIN_NO, "P4");
+    check(satisfies_f(0, 0, 0, 0, OSKHREIN_WORKSPACE_WORDS) == OSKHREIN_NO, "the empty multiset");
+    fill_workspace(GUARD);
+    CHECK(satisfies_f(1, 1, 1, 1, OSKHREIN_WORKSPACE_WORDS) == OSKHREIN_MALFORMED);
+    CHECK(satisfies_f(6, 6, 1, 0, OSKHREIN_WORKSPACE_WORDS) == OSKHREIN_FULL);
+    CHECK(satisfies_f(2, 1, 1, 0, OSKHREIN_WORKSPACE_WORDS - 1) == OSKHREIN_WORKSPACE);
+    CHECK(workspace_is(GUARD));
+}
+
+/* A refusal gives only its number: instance and workspace keep what they had, but for 9 and 11 the workspace. */
+static void refusals(void)
+{
+    struct oskhrein_instance instance = {0};
+    struct oskhrein_instance before;
+
+    CHECK(open_l(&instance) == OSKHREIN_ACCEPTED);
+    before = instance;
+    fill_workspace(GUARD);
+    CHECK(oskhrein_event(&instance, 0x01000001, workspace, OSKHREIN_WORKSPACE_WORDS - 1) == OSKHREIN_WORKSPACE);
+    CHECK(oskhrein_status(&instance, workspace, OSKHREIN_WORKSPACE_WORDS - 1) == OSKHREIN_WORKSPACE);
+    CHECK(oskhrein_event(&instance, 0x01000301, workspace, OSKHREIN_WORKSPACE_WORDS) == OSKHREIN_MALFORMED);
+    CHECK(same(&instance, &before) && workspace_is(GUARD));
+
+    check(oskhrein_event(&instance, 0x01000201, workspace, OSKHREIN_WORKSPACE_WORDS) == OSKHREIN_NOT_POSSIBLE, "P5");
+    CHECK(same(&instance, &before) && workspace[OSKHREIN_WORKSPACE_WORDS] == GUARD && !workspace_is(GUARD));
+
+    instance.taken = 13;
+    before = instance;
+    fill_workspace(GUARD);
+    CHECK(oskhrein_event(&instance, 0x01000001, workspace, OSKHREIN_WORKSPACE_WORDS) == OSKHREIN_INSTANCE);
+    CHECK(oskhrein_status(&instance, workspace, OSKHREIN_WORKSPACE_WORDS) == OSKHREIN_INSTANCE);
+    CHECK(same(&instance, &before) && workspace_is(GUARD));
+}
+
+static void normal_forms(void)
+{
+    static const uint32_t want[] = {0x08000000, 0x05000000, 0x01000000, 0x09000000, 0x02000000, 0x06000000,
+                                    0x02000002, 0x09000000, 0x02000000, 0x02000000, GUARD,      GUARD};
+    static const uint32_t both[] = {0x07000000, 0x01000000, 0x01000000};
+    static const uint32_t plus_over_together[] = {0x05000000, 0x08000000, 0x01000000, 0x01000000};
+    uint32_t out[WORDS_F + 2];
+    uint32_t before[WORDS_F + 2];
+
+    for (size_t i = 0; i < WORDS_F + 2; i++) {
+        out[i] = before[i] = GUARD;
+    }
+    CHECK(oskhrein_normal_form(3, 3, POLICY_F, WORDS_F, out, WORDS_F - 1) == OSKHREIN_OUTPUT);
+    CHECK(oskhrein_normal_form(3, 3, plus_over_together, 4, out, WORDS_F) == OSKHREIN_UNIT);
+    CHECK(oskhrein_normal_form(0, 3, POLICY_F, WORDS_F, out, WORDS_F) == OSKHREIN_COUNTS);
+    CHECK(memcmp(out, before, sizeof out) == 0);
+    CHECK(oskhrein_normal_form(3, 3, POLICY_F, WORDS_F, out, WORDS_F + 2) == OSKHREIN_ACCEPTED);
+    check(memcmp(out, want, sizeof out) == 0, "P10");
+    CHECK(oskhrein_normal_form(3, 3, both, 3, out, 3) == OSKHREIN_ACCEPTED);
+    check(memcmp(out, both, sizeof both) == 0, "P11");
+}
+
+int main(void)
+{
+    layout();
+    opening();
+    listing_l();
+    multisets();
+    refusals();
+    normal_forms();
+    printf("%d passed, %d failed\n", passed, failed);
+    return failed != 0;
+}

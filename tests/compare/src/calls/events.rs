@@ -1,0 +1,166 @@
+//! Events and statuses (01: standings): on raw instances, well formed and not, and along whole runs.
+
+use reference::casefile::{read_case, Case};
+use reference::generate::calls::{event_edges, event_input, EventInput};
+use reference::generate::{cases, Random};
+use reference::monitor;
+use reference::raw::RawInstance;
+use reference::workspace::WORDS;
+
+use super::{byte, Call};
+use crate::lent::Lent;
+use crate::library::{Instance, Library};
+use crate::report::answer_text;
+
+/// Both calls, with the library that is asked.
+struct Events<'a> {
+    library: &'a Library,
+    event: Call,
+    status: Call,
+}
+
+/// What a call answered and left.
+struct Left<'a> {
+    answer: u8,
+    instance: &'a Instance,
+    workspace: &'a Lent,
+}
+
+impl Left<'_> {
+    /// Whether another left the same.
+    fn same(&self, other: &Left) -> bool {
+        self.answer == other.answer
+            && self.instance == other.instance
+            && self.workspace == other.workspace
+    }
+
+    /// In what another, which was got, differs from this, which was expected.
+    fn against(&self, got: &Left) -> String {
+        let mut text =
+            format!("  expected {}, got {}", answer_text(self.answer), answer_text(got.answer));
+        if self.instance != got.instance {
+            let (expected, got) = (self.instance, got.instance);
+            text += &format!("\n  expected instance {expected:x?}\n  got instance {got:x?}");
+        }
+        if let Some((place, word, other)) = self.workspace.first_difference(got.workspace) {
+            text += &format!("\n  workspace word {place}: expected {word:08x}, got {other:08x}");
+        }
+        text
+    }
+}
+
+/// Compares on all edges, on so many random instances, on as many with a bit flipped, and along
+/// runs.
+pub fn compare(library: &Library, seed: u64, count: usize) -> [Call; 2] {
+    let event = Call::new("event", &[0, 7, 8, 9, 10, 11, 12, 15]);
+    let status = Call::new("status", &[12, 15, b'c', b'd', b'o']);
+    let mut events = Events { library, event, status };
+    let mut random = Random::new(seed);
+    for (name, input) in event_edges(&mut random) {
+        events.check(&name, &input);
+    }
+    for turn in 0..count {
+        if events.event.group.is_enough() || events.status.group.is_enough() {
+            break;
+        }
+        let input = event_input(&mut random);
+        events.check(&format!("random {turn} of seed {seed}"), &input);
+        let flipped = EventInput { instance: flipped(&mut random, input.instance), ..input };
+        events.check(&format!("flipped {turn} of seed {seed}"), &flipped);
+        let (_, bytes) = cases::random_file(&mut random, turn);
+        if let (0, Ok(case)) = (turn % 8, read_case(&bytes)) {
+            events.run(&format!("run {turn} of seed {seed}"), &case);
+        }
+    }
+    [events.event, events.status]
+}
+
+/// The instance with one bit of one field flipped.
+fn flipped(random: &mut Random, instance: RawInstance) -> RawInstance {
+    let mut raw = instance;
+    let byte = 1 << random.below(8);
+    match random.below(9) {
+        0 => raw.users ^= byte,
+        1 => raw.roles ^= byte,
+        2 => raw.length ^= byte,
+        3 => raw.count ^= byte,
+        4 => raw.policy[random.below(31)] ^= 1 << random.below(32),
+        5 => raw.user_roles[random.below(16)] ^= 1 << random.below(16),
+        6 => raw.actions[random.below(12)].user ^= byte,
+        7 => raw.actions[random.below(12)].met ^= 1 << random.below(32),
+        _ => raw.closed = !raw.closed,
+    }
+    raw
+}
+
+impl Events<'_> {
+    /// One event on an instance, and its status.
+    fn check(&mut self, label: &str, input: &EventInput) {
+        let mut raw = input.instance;
+        let mut workspace = Lent::new(input.workspace);
+        let code = raw.event(input.word, workspace.words());
+        let after = Instance::from(&raw);
+        let expected = Left { answer: code as u8, instance: &after, workspace: &workspace };
+        let before = Instance::from(&input.instance);
+        self.event(label, before, input.word, input.workspace, &expected);
+        let mut workspace = Lent::new(input.workspace);
+        let answer = byte(input.instance.status(workspace.words()).map(|letter| letter as u8));
+        let expected = Left { answer, instance: &before, workspace: &workspace };
+        self.status(label, &before, input.workspace, &expected);
+    }
+
+    /// Asks the product for an event; the instance that it leaves.
+    fn event(
+        &mut self,
+        label: &str,
+        before: Instance,
+        word: u32,
+        length: usize,
+        expected: &Left,
+    ) -> Instance {
+        let (mut instance, mut workspace) = (before, Lent::new(length));
+        let answer = self.library.event(&mut instance, word, workspace.words());
+        let got = Left { answer, instance: &instance, workspace: &workspace };
+        self.event.check(answer, expected.same(&got), || {
+            let input = format!("event {word:08x}, workspace of {length}, on (hex) {before:x?}");
+            format!("{label}\n  {input}\n{}", expected.against(&got))
+        });
+        instance
+    }
+
+    /// Asks the product for a status.
+    fn status(&mut self, label: &str, before: &Instance, length: usize, expected: &Left) {
+        let (mut instance, mut workspace) = (*before, Lent::new(length));
+        let answer = self.library.status(&mut instance, workspace.words());
+        let got = Left { answer, instance: &instance, workspace: &workspace };
+        self.status.check(answer, expected.same(&got), || {
+            let input = format!("workspace of {length}, of (hex) {before:x?}");
+            format!("{label}\n  {input}\n{}", expected.against(&got))
+        });
+    }
+
+    /// A whole run from the opening, beside an instance of the reference that keeps no bits but the
+    /// roles held at the time.
+    fn run(&mut self, label: &str, case: &Case) {
+        let Case { users, roles, policy, user_roles, events } = case;
+        let (users, roles) = (*users, *roles);
+        let opened = monitor::Instance::open(users.into(), roles.into(), policy, user_roles);
+        let Ok(mut grown) = opened else {
+            return;
+        };
+        let mut instance = Instance::default();
+        self.library.open(&mut instance, users, roles, policy, user_roles);
+        for (place, word) in events.iter().enumerate() {
+            let label = format!("{label}, event {place} of (hex) {case:x?}");
+            let mut workspace = Lent::new(WORDS);
+            let answer = grown.event(*word, workspace.words()) as u8;
+            let after = Instance::from(&grown.raw());
+            let expected = Left { answer, instance: &after, workspace: &workspace };
+            instance = self.event(&label, instance, *word, WORDS, &expected);
+            let mut workspace = Lent::new(WORDS);
+            let answer = byte(grown.status(workspace.words()).map(|letter| letter as u8));
+            let expected = Left { answer, instance: &after, workspace: &workspace };
+            self.status(&label, &instance, WORDS, &expected);
+        }
+    }
+}

@@ -1,0 +1,72 @@
+//! Opening an instance: the number, and the whole instance, which is blank after a refusal.
+
+use reference::casefile::{read_case, Case};
+use reference::generate::{cases, edges, Random};
+use reference::raw::RawInstance;
+
+use super::Call;
+use crate::fuzz::likely_word;
+use crate::library::{Action, Instance, Library};
+use crate::report::answer_text;
+
+/// What the caller's instance holds before it is opened: nothing that an opening writes.
+fn unopened() -> Instance {
+    Instance {
+        policy: [0xa5a5_a5a5; 31],
+        words: 0xa5,
+        users: 0xa6,
+        roles: 0xa7,
+        user_roles: [0xa5a5; 16],
+        actions: [Action { user: 0xa5, met: 0xa5a5_a5a5 }; 12],
+        taken: 0xa5,
+        closed: 1,
+    }
+}
+
+/// Counts, words and rows that have little to do with each other.
+fn unrelated(random: &mut Random) -> Case {
+    let count = |random: &mut Random| random.pick(&[0, 1, 2, 3, 15, 16, 17, 255]);
+    let (users, roles) = (count(random), count(random));
+    let policy = (0..random.below(40)).map(|_| likely_word(random)).collect();
+    let rows = random.pick(&[users.into(), users.into(), 0, 1, 16, 17, 300]);
+    let user_roles = (0..rows).map(|_| random.pick(&[0, 1, 2, 3, 0x8000])).collect();
+    Case { users, roles, policy, user_roles, events: vec![] }
+}
+
+/// Compares on all edges, on so many random cases and on as many with unrelated parts.
+pub fn compare(library: &Library, seed: u64, count: usize) -> Call {
+    let mut call = Call::new("open", &[0, 1, 2, 3, 4, 5, 6]);
+    for (name, bytes) in edges::all() {
+        if let Ok(case) = read_case(&bytes) {
+            check(&mut call, library, &name, &case);
+        }
+    }
+    let mut random = Random::new(seed);
+    for turn in 0..count {
+        if call.group.is_enough() {
+            break;
+        }
+        let (kind, bytes) = cases::random_file(&mut random, turn);
+        let case = read_case(&bytes).unwrap_or_else(|_| cases::misworded(&mut random));
+        check(&mut call, library, &format!("{kind} {turn} of seed {seed}"), &case);
+        let case = unrelated(&mut random);
+        check(&mut call, library, &format!("unrelated {turn} of seed {seed}"), &case);
+    }
+    call
+}
+
+/// One opening.
+fn check(call: &mut Call, library: &Library, label: &str, case: &Case) {
+    let Case { users, roles, policy, user_roles, .. } = case;
+    let (code, raw) = RawInstance::open((*users).into(), (*roles).into(), policy, user_roles);
+    let mut instance = unopened();
+    let answer = library.open(&mut instance, *users, *roles, policy, user_roles);
+    let expected = Instance::from(&raw);
+    call.check(answer, answer == code as u8 && instance == expected, || {
+        let answer = answer_text(answer);
+        format!(
+            "{label}\n  users {users}, roles {roles}, policy {policy:08x?}, rows {user_roles:04x?}
+  expected {code} and {expected:x?}\n  got {answer} and {instance:x?}"
+        )
+    });
+}

@@ -1,0 +1,117 @@
+//! The bytes of a case file: three pairs of offset and length, then policy, grants and events.
+
+/// The bytes of the three pairs.
+const PAIRS: usize = 12;
+/// The most bytes of a case file.
+const MOST_BYTES: usize = 4096;
+/// The most bytes of its events.
+const MOST_EVENT_BYTES: usize = 1024;
+/// The parts, in order.
+const PARTS: [&str; 3] = ["policy", "grants", "events"];
+
+/// What a case file says. Whether an opening accepts it is the judge's matter.
+#[derive(Clone, Debug, Default, PartialEq, Eq)]
+pub struct Case {
+    /// The number of users.
+    pub users: u8,
+    /// The number of roles.
+    pub roles: u8,
+    /// The policy words.
+    pub policy: Vec<u32>,
+    /// For each user the roles held, bit r for role r.
+    pub grants: Vec<u16>,
+    /// The event words.
+    pub events: Vec<u32>,
+}
+
+/// The number of 16 bits at this place, low byte first.
+fn number(bytes: &[u8], place: usize) -> usize {
+    usize::from(u16::from_le_bytes([bytes[place], bytes[place + 1]]))
+}
+
+/// The words of four bytes each, low byte first.
+fn words(bytes: &[u8]) -> Vec<u32> {
+    let word = |four: &[u8]| u32::from_le_bytes([four[0], four[1], four[2], four[3]]);
+    bytes.chunks_exact(4).map(word).collect()
+}
+
+/// The three parts of a file, or why it has none.
+fn parts(bytes: &[u8]) -> Result<[&[u8]; 3], String> {
+    let length = bytes.len();
+    if length < PAIRS {
+        return Err(format!("{length} bytes, fewer than the {PAIRS} of the pairs"));
+    }
+    if length > MOST_BYTES {
+        return Err(format!("{length} bytes, more than {MOST_BYTES}"));
+    }
+    let mut found = [&bytes[..0]; 3];
+    let mut end = PAIRS;
+    for (part, name) in PARTS.iter().enumerate() {
+        let (offset, extent) = (number(bytes, 4 * part), number(bytes, 4 * part + 2));
+        if offset != end {
+            return Err(format!("the {name} part begins at byte {offset}, not at {end}"));
+        }
+        end += extent;
+        let inside = bytes.get(offset..end);
+        found[part] =
+            inside.ok_or(format!("the {name} part ends at byte {end} of a file of {length}"))?;
+    }
+    if end != length {
+        return Err(format!("{} bytes behind the events", length - end));
+    }
+    Ok(found)
+}
+
+/// Reads a case file.
+///
+/// # Errors
+/// What is malformed (number 14).
+pub fn read(bytes: &[u8]) -> Result<Case, String> {
+    let [policy, grants, events] = parts(bytes)?;
+    for (name, part) in [("policy", policy), ("events", events)] {
+        if part.len() % 4 != 0 {
+            return Err(format!("{name} of {} bytes, no multiple of 4", part.len()));
+        }
+    }
+    if events.len() > MOST_EVENT_BYTES {
+        return Err(format!("events of {} bytes, more than {MOST_EVENT_BYTES}", events.len()));
+    }
+    if grants.len() < 2 || grants.len() % 2 != 0 {
+        return Err(format!("grants of {} bytes, fewer than 2 or odd", grants.len()));
+    }
+    let rows = grants[2..].chunks_exact(2).map(|row| u16::from_le_bytes([row[0], row[1]]));
+    Ok(Case {
+        users: grants[0],
+        roles: grants[1],
+        policy: words(policy),
+        grants: rows.collect(),
+        events: words(events),
+    })
+}
+
+/// The bytes of a case file.
+///
+/// # Errors
+/// Why no case file can hold the case.
+pub fn write(case: &Case) -> Result<Vec<u8>, String> {
+    let policy: Vec<u8> = case.policy.iter().flat_map(|word| word.to_le_bytes()).collect();
+    let rows = case.grants.iter().flat_map(|row| row.to_le_bytes());
+    let grants: Vec<u8> = [case.users, case.roles].into_iter().chain(rows).collect();
+    let events: Vec<u8> = case.events.iter().flat_map(|word| word.to_le_bytes()).collect();
+    let length = PAIRS + policy.len() + grants.len() + events.len();
+    if length > MOST_BYTES {
+        return Err(format!("the case file would have {length} bytes, more than {MOST_BYTES}"));
+    }
+    if events.len() > MOST_EVENT_BYTES {
+        return Err(format!("{} events, more than {}", case.events.len(), MOST_EVENT_BYTES / 4));
+    }
+    let mut bytes = Vec::new();
+    let mut offset = PAIRS;
+    for part in [&policy, &grants, &events] {
+        bytes.extend((offset as u16).to_le_bytes());
+        bytes.extend((part.len() as u16).to_le_bytes());
+        offset += part.len();
+    }
+    bytes.extend([policy, grants, events].concat());
+    Ok(bytes)
+}
