@@ -1,7 +1,8 @@
 /*
  * Oskhrein, the separation-of-duty monitor, as a desk program links it: libembed.a.
  *
- * A call keeps no state and allocates nothing; it reads and writes only what it is lent. Every answer is one byte.
+ * A call keeps no state and allocates nothing; it reads and writes only what it is lent, and takes up to 128 KiB of stack. Every
+ * answer is one byte.
  *
  * The caller owes, for every call:
  * - Each pointer is aligned, not null, and valid for its length, which counts elements and follows the pointer; an array of length 0

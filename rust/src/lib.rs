@@ -1,0 +1,155 @@
+//! A safe interface to Oskhrein, the proved separation-of-duty monitor.
+//!
+//! An [`Instance`] is one run under a policy. It takes an action by a user or turns it away, lets
+//! roles be granted and withdrawn, and is closed once its actions satisfy the policy; [`satisfies`]
+//! asks about a multiset of users instead, and [`normal_form`] writes a policy in its normal form.
+//! Calls that judge actions are lent a [`Workspace`], and take up to 128 KiB of stack. Nothing is
+//! kept between calls but what the caller holds.
+//!
+//! Document 01 has words of its own for some of these: an instance is its sheet, a workspace its
+//! work room, a status its standing, a multiset its bag, and users are people.
+//!
+//! # Policies
+//!
+//! A policy is 1 to 31 words in prefix order: a word, then its sides. The kind is in bits 24 to 31,
+//! the operand in bits 0 to 15, all else is zero.
+//!
+//! | kind | term | operand | sides |
+//! |---|---|---|---|
+//! | 1 | everyone | 0 | 0 |
+//! | 2 | role | role number | 0 |
+//! | 3 | set | mask of users, not zero | 0 |
+//! | 4 | not | 0 | 1 |
+//! | 5 | plus | 0 | 1 |
+//! | 6 | either | 0 | 2 |
+//! | 7 | both | 0 | 2 |
+//! | 8 | together | 0 | 2 |
+//! | 9 | apart | 0 | 2 |
+//!
+//! # Example
+//!
+//! Document 01's listing L, whose policy is Example 3 of document 004: an accountant (role 0), and
+//! as somebody else a manager (role 2) or two more accountants, who differ too; with them, one or
+//! more actions by anybody who holds a role.
+//!
+//! ```
+//! use oskhrein::{Event, Instance, Refusal, Status, Workspace};
+//!
+//! # fn main() -> Result<(), Refusal> {
+//! let policy = [
+//!     0x08000000, 0x09000000, 0x02000000, 0x06000000, 0x02000002, 0x09000000, 0x02000000,
+//!     0x02000000, 0x05000000, 0x01000000,
+//! ];
+//! let mut workspace = Workspace::new();
+//! let mut quote = Instance::open(3, 3, &policy, &[2, 1, 0])?;
+//!
+//! quote.event(Event::Action { user: 0, number: 1 }, &mut workspace)?;
+//! quote.event(Event::Action { user: 1, number: 2 }, &mut workspace)?;
+//! quote.event(Event::Grant { user: 1, role: 2 }, &mut workspace)?;
+//! quote.event(Event::Grant { user: 2, role: 2 }, &mut workspace)?;
+//! let early = quote.event(Event::Close, &mut workspace);
+//! assert_eq!(early, Err(Refusal::NotSatisfied));
+//! assert_eq!(quote.status(&mut workspace)?, Status::Open);
+//!
+//! quote.event(Event::Action { user: 2, number: 3 }, &mut workspace)?;
+//! assert_eq!(quote.status(&mut workspace)?.letter(), 'c');
+//! quote.event(Event::Action { user: 0, number: 4 }, &mut workspace)?;
+//! quote.event(Event::Close, &mut workspace)?;
+//! assert_eq!(quote.status(&mut workspace)?.letter(), 'd');
+//!
+//! let late = quote.event(Event::Action { user: 0, number: 4 }, &mut workspace);
+//! assert_eq!(late.map_err(Refusal::number), Err(10));
+//! assert_eq!(quote.actions().len(), 4);
+//! # Ok(())
+//! # }
+//! ```
+
+#![deny(missing_docs)]
+#![deny(unsafe_code)]
+
+mod event;
+#[allow(unsafe_code)]
+mod ffi;
+mod instance;
+mod refusal;
+mod status;
+mod workspace;
+
+pub use event::Event;
+pub use instance::{Action, Instance, UnknownMark};
+pub use refusal::Refusal;
+pub use status::Status;
+pub use workspace::Workspace;
+
+/// The most words that a policy may have.
+pub const MAX_WORDS: usize = 31;
+
+/// The most users, and the most roles, that may be declared.
+pub const MAX_USERS: usize = 16;
+
+/// The most actions that an instance takes, and that a multiset may have.
+pub const MAX_ACTIONS: usize = 12;
+
+/// Whether a multiset of users satisfies a policy: user u occurs `counts[u]` times. The empty
+/// multiset does not.
+///
+/// After a yes or a no the workspace speaks of the multiset's actions, in an order that is not
+/// promised.
+///
+/// # Errors
+/// The first that applies of the refusals of [`Instance::open`], in its order,
+/// [`Malformed`](Refusal::Malformed) and [`Full`](Refusal::Full).
+///
+/// # Example
+///
+/// Two different users who both hold role 0:
+///
+/// ```
+/// let apart = [0x09000000, 0x02000000, 0x02000000];
+/// let mut workspace = oskhrein::Workspace::new();
+/// let mut counts = [0; oskhrein::MAX_USERS];
+/// counts[0] = 2;
+/// assert_eq!(oskhrein::satisfies(2, 1, &apart, &[1, 1], &counts, &mut workspace), Ok(false));
+/// counts[..2].copy_from_slice(&[1, 1]);
+/// assert_eq!(oskhrein::satisfies(2, 1, &apart, &[1, 1], &counts, &mut workspace), Ok(true));
+/// ```
+pub fn satisfies(
+    users: u8,
+    roles: u8,
+    policy: &[u32],
+    user_roles: &[u16],
+    counts: &[u8; MAX_USERS],
+    workspace: &mut Workspace,
+) -> Result<bool, Refusal> {
+    refusal::verdict(ffi::satisfies(users, roles, policy, user_roles, counts, workspace))
+}
+
+/// Writes the normal form of a policy at the start of an output, and gives it back. It has as many
+/// words as the policy; the rest of the output keeps what it had.
+///
+/// Policies with the same normal form, and the same users and roles, give any list of events the
+/// same answers.
+///
+/// # Errors
+/// The first that applies of [`Counts`](Refusal::Counts), [`WordCount`](Refusal::WordCount),
+/// [`Word`](Refusal::Word), [`Term`](Refusal::Term), [`Unit`](Refusal::Unit) and
+/// [`Output`](Refusal::Output).
+///
+/// # Example
+///
+/// ```
+/// let (everyone, role, together) = (0x01000000, 0x02000000, 0x08000000);
+/// let mut out = [0; oskhrein::MAX_WORDS];
+/// let normal = oskhrein::normal_form(3, 3, &[together, role, everyone], &mut out)?;
+/// assert_eq!(normal, [together, everyone, role]);
+/// # Ok::<(), oskhrein::Refusal>(())
+/// ```
+pub fn normal_form<'a>(
+    users: u8,
+    roles: u8,
+    policy: &[u32],
+    out: &'a mut [u32],
+) -> Result<&'a [u32], Refusal> {
+    refusal::accepted(ffi::normal_form(users, roles, policy, out))?;
+    Ok(&out[..policy.len()])
+}

@@ -1,0 +1,123 @@
+//! Instances stored in bytes and reloaded, and bytes in which none was stored.
+
+mod common;
+
+use common::{open_l, step, EVENTS_L, POLICY_F};
+use oskhrein::{Event, Instance, Refusal, Workspace};
+
+/// The bytes of listing L's instance with its first two actions.
+fn stored() -> [u8; Instance::BYTES] {
+    let (mut instance, mut workspace) = (open_l(), Workspace::new());
+    for word in &EVENTS_L[..2] {
+        instance.event_word(*word, &mut workspace).expect("it is accepted");
+    }
+    instance.to_bytes()
+}
+
+/// Whether an instance with this byte at this place is malformed, by both calls.
+fn is_malformed(place: usize, byte: u8) -> bool {
+    let mut bytes = stored();
+    bytes[place] = byte;
+    let mut instance = Instance::from_bytes(&bytes).expect("its mark is 0 or 1");
+    let mut workspace = Workspace::new();
+    let status = instance.status(&mut workspace);
+    let event = instance.event(Event::Grant { user: 0, role: 1 }, &mut workspace);
+    assert_eq!(status.is_err(), event.is_err());
+    status == Err(Refusal::Instance) && event == Err(Refusal::Instance)
+}
+
+#[test]
+fn reloaded_at_every_step() {
+    let (mut kept, mut workspace) = (open_l(), Workspace::new());
+    let mut reloaded = kept.clone();
+    for word in EVENTS_L {
+        reloaded = Instance::from_bytes(&reloaded.to_bytes()).expect("it was stored");
+        let answers = [&mut kept, &mut reloaded].map(|i| step(i, word, &mut workspace));
+        assert_eq!(answers[0], answers[1]);
+        assert_eq!(kept, reloaded);
+    }
+}
+
+#[test]
+fn bytes_are_in_the_layout_of_c() {
+    let bytes = stored();
+    assert_eq!(bytes.len(), 260);
+    let words: Vec<u8> = POLICY_F.iter().flat_map(|word| word.to_le_bytes()).collect();
+    assert_eq!(bytes[..40], words);
+    assert_eq!(bytes[40..124], [0; 84]);
+    assert_eq!(bytes[124..128], [10, 3, 3, 0]);
+    assert_eq!(bytes[128..134], [2, 0, 1, 0, 0, 0]);
+    assert_eq!(bytes[134..160], [0; 26]);
+    // user 0 met everyone, the term at word 9; user 1 also role 0, at words 2, 6 and 7
+    assert_eq!(bytes[160..168], [0, 0, 0, 0, 0, 1 << 1, 0, 0]);
+    assert_eq!(bytes[168..176], [1, 0, 0, 0, 1 << 2 | 1 << 6 | 1 << 7, 1 << 1, 0, 0]);
+    assert_eq!(bytes[176..256], [0; 80]);
+    assert_eq!(bytes[256..], [2, 0, 0, 0]);
+}
+
+#[test]
+fn every_part_of_fifteen() {
+    assert!(!is_malformed(124, 10), "as it was stored");
+    let wrong = [
+        ("policy", 3, 10),
+        ("an unused policy word", 123, 1),
+        ("word count", 124, 9),
+        ("word count above 31", 124, 200),
+        ("users", 125, 17),
+        ("users above the array", 125, 255),
+        ("roles", 126, 0),
+        ("a role that is not declared", 128, 8),
+        ("an unused row", 159, 1),
+        ("a user that is not declared", 160, 3),
+        ("a bit at no unit term", 164, 1),
+        ("a bit past the policy", 167, 128),
+        ("an unused place's user", 176, 1),
+        ("an unused place's bits", 180, 4),
+        ("actions above twelve", 256, 13),
+        ("actions above the array", 256, 255),
+        ("fewer actions", 256, 1),
+    ];
+    for (what, place, byte) in wrong {
+        assert!(is_malformed(place, byte), "{what}");
+    }
+}
+
+#[test]
+fn padding_is_not_looked_at() {
+    let mut bytes = stored();
+    for place in [127, 161, 162, 163, 249, 258, 259] {
+        bytes[place] = 0xff;
+    }
+    let instance = Instance::from_bytes(&bytes).expect("its mark is 0");
+    assert_eq!(instance.to_bytes(), stored());
+}
+
+#[test]
+fn a_mark_that_is_neither_0_nor_1_is_refused() {
+    let mut bytes = stored();
+    for mark in 0..=u8::MAX {
+        bytes[257] = mark;
+        assert_eq!(Instance::from_bytes(&bytes).is_ok(), mark <= 1, "{mark}");
+    }
+    let error = Instance::from_bytes(&bytes).expect_err("the mark is 255");
+    assert_eq!(error.to_string(), "the closed mark is 255, neither 0 nor 1");
+}
+
+#[test]
+fn any_bytes_are_answered() {
+    let mut workspace = Workspace::new();
+    let mut state = 1u32;
+    for _ in 0..2000 {
+        let mut bytes = stored();
+        for _ in 0..3 {
+            state = state.wrapping_mul(1664525).wrapping_add(1013904223);
+            bytes[(state >> 8) as usize % Instance::BYTES] = (state >> 24) as u8;
+        }
+        let Ok(mut instance) = Instance::from_bytes(&bytes) else { continue };
+        let parts = (instance.policy().len(), instance.user_roles().len());
+        assert!(parts.0 <= 31 && parts.1 <= 16 && instance.actions().len() <= 12);
+        let status = instance.status(&mut workspace);
+        let event = instance.event(Event::Action { user: 0, number: 0 }, &mut workspace);
+        assert_eq!(status == Err(Refusal::Instance), event == Err(Refusal::Instance));
+    }
+}
