@@ -48,7 +48,10 @@ impl Instance {
         let mut next = self;
         let mut user: usize = 0;
         while user < 16 {
-            next = next.with_actions(self.noted(user as u8), counts[user]);
+            let n = counts[user];
+            if n != 0 {
+                next = next.with_actions(self.noted(user as u8), n);
+            }
             user += 1;
         }
         next

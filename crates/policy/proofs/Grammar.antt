@@ -1,7 +1,7 @@
 -- The grammar of policy words as a relation, and that reading a row of terms from the last word to the first finds the same.
 use mathlib.Core.Path.{_≡_, refl, sym, _∙_}
 use mathlib.Core.Logic.{_⊎_, inl, inr}
-use mathlib.Core.Bool.{true, false, cond}
+use mathlib.Core.Bool.{true, false, cond, true≢false}
 use mathlib.Core.List.{List, [], _∷_}
 use mathlib.Core.Option.{Option, some, none}
 use Prim.Native.Nat.{ℕ, zero, suc, _+_, _<_}
@@ -26,13 +26,13 @@ pub data Row : ℕ → ℕ → Type 0 where
   row5 : Row 5 1
   rowOp : (op : Op) → Row (opKind op) 2
 
-abbrev pub Known : ℕ → Type 0
+abbrev Known : ℕ → Type 0
 Known k = ((known k ≡ true) × Row k (sides k)) ⊎ ((known k ≡ false) × (kindOf k ≡ bad))
 
 past-nine : (k : ℕ) → 9 < k → known k ≡ false
 past-nine k h = rw (le-leb 1 k (omega arith), lt-leb k 9 h)
 
-pub row-of : (k : ℕ) → Known k
+row-of : (k : ℕ) → Known k
 row-of zero = inr (refl, refl)
 row-of (suc zero) = inl (refl, row1)
 row-of (suc (suc zero)) = inl (refl, row2)
@@ -44,6 +44,18 @@ row-of (suc (suc (suc (suc (suc (suc (suc zero))))))) = inl (refl, rowOp both)
 row-of (suc (suc (suc (suc (suc (suc (suc (suc zero)))))))) = inl (refl, rowOp together)
 row-of (suc (suc (suc (suc (suc (suc (suc (suc (suc zero))))))))) = inl (refl, rowOp apart)
 row-of (suc (suc (suc (suc (suc (suc (suc (suc (suc (suc k)))))))))) = inr (past-nine (suc (suc (suc (suc (suc (suc (suc (suc (suc (suc k)))))))))) (omega arith), refl)
+
+pub known-row : (k n : ℕ) → known k ≡ true → n ≡ sides k → Row k n
+known-row k n e q = elim (row-of k) [
+  | inl r ↦ rw q (r .1)
+  | inr r ↦ absurd (true≢false (sym e ∙ r .0))
+]
+
+pub unknown-bad : (k : ℕ) → known k ≡ false → kindOf k ≡ bad
+unknown-bad k e = elim (row-of k) [
+  | inl r ↦ absurd (true≢false (sym (r .0) ∙ e))
+  | inr r ↦ r .1
+]
 
 pub push-op : (op : Op) (x : ℕ) (ts : List (Option Term)) → push (kindOf (opKind op)) x ts ≡ lift2 op (head ts) (head (tail ts)) ∷ tail (tail ts)
 push-op either x ts = refl

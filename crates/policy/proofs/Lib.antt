@@ -1,8 +1,9 @@
 pub mod Refusals
 pub mod Masks
 pub mod Grammar
-pub mod Sides
 pub mod Scanning
+pub mod Stacks
+pub mod Kinded
 pub mod Ends
 pub mod Accepted
 pub mod Examples

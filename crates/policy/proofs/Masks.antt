@@ -1,15 +1,16 @@
--- Masks put together: the digits of a word, of its first side and of its second, one after the other.
-use mathlib.Core.Path.{_≡_, sym, _∙_, ap}
-use mathlib.Core.Bool.{Bool, true, false, cond}
-use mathlib.Core.List.{List, [], _∷_, _++_}
-use Prim.Native.Nat.{ℕ, suc, _+_, _*_, _%_, _^_, _≤_, _<_}
-use native.Mathlib.Nat.{pow-suc, mul-assoc}
+-- Masks over the elements of a list: one more put below, the first n taken away, those of another mask left out.
+use mathlib.Core.Path.{_≡_, refl, sym, _∙_, ap}
+use mathlib.Core.Bool.{Bool, true, false, not, _&&_, cond}
+use mathlib.Core.List.{List, [], _∷_, map}
+use Prim.Native.Nat.{ℕ, zero, suc, _+_, _*_, _/_, _^_, _≤_, _<_}
+use native.Mathlib.Nat.{pow-suc, div-one, zero-div}
+use native.Mathlib.Numerals.{one-add}
 use native.Mathlib.Omega.{arith}
-use lib.Bits.{bitOr, or-shifted-r}
-use lib.ListN.{length, length-append}
-use lib.Pow.{shl-exact}
+use lib.Bits.{bitAnd, bitOr, or-shifted, and-block}
+use lib.ListN.{length, drop}
+use lib.Pow.{shl-exact, shr-shr}
 use Rattle.soda.specs.Bits.{number}
-use Rattle.policy.specs.Scans.{maskOf}
+use Rattle.policy.specs.Scans.{putOf, withoutOf}
 
 digit-lt : (b : Bool) → cond b 1 0 < 2
 digit-lt true = omega arith
@@ -19,21 +20,40 @@ number-lt : (l : List Bool) → number l < 2 ^ length l
 number-lt [] = omega arith
 number-lt (b ∷ l) = omega (arith, digit-lt b, number-lt l, pow-suc 2 (length l))
 
-number-append : (l m : List Bool) → number (l ++ m) ≡ number m * 2 ^ length l + number l
-number-append [] m = omega arith
-number-append (b ∷ l) m =
-    let p : number m * 2 ^ suc (length l) ≡ number m * 2 ^ length l * 2 =
-    ap (λ (n : ℕ). number m * n) (pow-suc 2 (length l)) ∙ sym (mul-assoc (number m) (2 ^ length l) 2) in
-    omega (arith, number-append l m)
+pub put-is : (b : Bool) (l : List Bool) → length l ≤ 31 → putOf (number l) b ≡ number (b ∷ l)
+put-is b l h =
+    let e : length l + 1 ≤ 32 = omega arith in
+    ap (λ (n : ℕ). bitOr n (cond b 1 0)) (shl-exact (length l) 1 32 (number-lt l) e)
+    ∙ or-shifted (number l) 1 (cond b 1 0) (digit-lt b)
+    ∙ (let z : number l * 2 + cond b 1 0 ≡ cond b 1 0 + 2 * number l = omega arith in z)
 
--- digits shifted behind k others
-behind : (k : ℕ) (l : List Bool) (n : ℕ) → n < 2 ^ k → k + length l ≤ 32 → bitOr n (number l * 2 ^ k % 2 ^ 32) ≡ number l * 2 ^ k + n
-behind k l n h f =
-    let e : length l + k ≤ 32 = omega arith in
-    ap (bitOr n) (shl-exact (length l) k 32 (number-lt l) e) ∙ or-shifted-r (number l) k n h
+digit-and : (a b : Bool) → bitAnd (cond a 1 0) (cond b 1 0) + cond (a && not b) 1 0 ≡ cond a 1 0
+digit-and true true = refl
+digit-and true false = refl
+digit-and false true = refl
+digit-and false false = refl
 
-pub mask-is : (b : Bool) (l m : List Bool) → length l + length m ≤ 31 → maskOf b (number l) (length l) (number m) ≡ number (b ∷ (l ++ m))
-mask-is b l m h =
-    ap (λ (n : ℕ). bitOr (cond b 1 0) (n * 2 ^ 1 % 2 ^ 32)) (behind (length l) m (number l) (number-lt l) (omega arith) ∙ sym (number-append l m))
-    ∙ behind 1 (l ++ m) (cond b 1 0) (digit-lt b) (omega (arith, length-append l m))
-    ∙ (let e : number (l ++ m) * 2 + cond b 1 0 ≡ cond b 1 0 + 2 * number (l ++ m) = omega arith in e)
+module _ {A : Type 0} (f : A → Bool) where
+  pub taken : (n : ℕ) (l : List A) → number (map f l) / 2 ^ n ≡ number (map f (drop n l))
+  taken zero l = div-one (number (map f l))
+  taken (suc n) [] = zero-div (2 ^ suc n)
+  taken (suc n) (x ∷ l) =
+      let e : number (map f (x ∷ l)) / 2 ^ 1 ≡ number (map f l) = omega (arith, digit-lt (f x)) in
+      ap (λ (k : ℕ). number (map f (x ∷ l)) / 2 ^ k) (sym (one-add n))
+      ∙ sym (shr-shr (number (map f (x ∷ l))) 1 n)
+      ∙ ap (λ (k : ℕ). k / 2 ^ n) e
+      ∙ taken n l
+
+  module _ (g : A → Bool) where
+    parts : (l : List A) → bitAnd (number (map f l)) (number (map g l)) + number (map (λ x. f x && not (g x)) l) ≡ number (map f l)
+    parts [] = refl
+    parts (x ∷ l) =
+        let p : number (map f (x ∷ l)) ≡ number (map f l) * 2 ^ 1 + cond (f x) 1 0 = omega arith in
+        let q : number (map g (x ∷ l)) ≡ number (map g l) * 2 ^ 1 + cond (g x) 1 0 = omega arith in
+        let e : bitAnd (number (map f (x ∷ l))) (number (map g (x ∷ l)))
+        ≡ bitAnd (number (map f l)) (number (map g l)) * 2 ^ 1 + bitAnd (cond (f x) 1 0) (cond (g x) 1 0) =
+        (λ i. bitAnd (p i) (q i)) ∙ and-block 1 (number (map f l)) (number (map g l)) (cond (f x) 1 0) (cond (g x) 1 0) (digit-lt (f x)) (digit-lt (g x)) in
+        omega (arith, parts l, digit-and (f x) (g x))
+
+    pub without-is : (l : List A) → withoutOf (number (map f l)) (number (map g l)) ≡ number (map (λ x. f x && not (g x)) l)
+    without-is l = omega (arith, parts l)

@@ -1,20 +1,19 @@
--- What the crate's own functions answer: tests of one word, and what the scan finds of the first term of some words.
+-- What the crate's own functions answer: tests of one word, the first term of some words, and what is kept of a row of terms.
 use mathlib.Core.Path.{_≡_}
 use mathlib.Core.Bool.{Bool, true, false, not, _&&_, _||_, cond}
-use mathlib.Core.List.{List}
+use mathlib.Core.List.{List, map}
 use mathlib.Core.Option.{Option, some, none}
-use Prim.Native.Nat.{ℕ, _+_, _*_, _%_, _^_}
-use lib.Bits.{bitOr}
+use Prim.Native.Nat.{ℕ, _+_, _-_, _*_, _/_, _%_, _^_}
+use lib.Bits.{bitAnd, bitOr}
 use lib.Dec.{leb, ltb, eqb}
-use Rattle.soda.specs.Bits.{bit}
-use Rattle.soda.specs.Terms.{either, both, together, apart, Term, unit, wellFormed, size, marks}
-use Rattle.soda.specs.Roles.{meets}
+use Rattle.soda.specs.Bits.{bit, number}
+use Rattle.soda.specs.Terms.{Term, unit, wellFormed, size, marks}
 use Rattle.soda.specs.Tables.{metBits}
-use Rattle.policy.specs.Words.{decode}
-use Rattle.policy.specs.Shapes.{isPlus, isOp, rightSides, padded}
-use Rattle.policy.specs.declared.Facts.{Facts}
-use Rattle.policy.specs.declared.Found.{Found}
-use Rattle.policy.specs.declared.Found.the-variants.{Whole, Missing}
+use Rattle.policy.specs.Words.{kind, decode}
+use Rattle.policy.specs.Shapes.{rightSides, padded}
+use Rattle.policy.specs.declared.Stack.{Stack}
+use Rattle.policy.specs.declared.Judged.{Judged}
+use Rattle.policy.specs.declared.Kinds.{Kinds}
 
 -- a kind of 01's table
 abbrev pub known : ℕ → Bool
@@ -28,71 +27,54 @@ meetsLeaf k x u h = cond (eqb k 1) (not (eqb h 0)) (cond (eqb k 2) (bit x h) (bi
 abbrev pub meetsSides : ℕ → Bool → Bool → Bool
 meetsSides k a b = (eqb k 6 && (a || b)) || (eqb k 7 && (a && b))
 
--- a mask over a term's words, in 32 bits: the first word's own digit, then the n digits of the first side, then the second's
-abbrev pub maskOf : Bool → ℕ → ℕ → ℕ → ℕ
-maskOf own a n b = bitOr (cond own 1 0) (bitOr a (b * 2 ^ n % 2 ^ 32) * 2 ^ 1 % 2 ^ 32)
+-- how many words a term is; 0 for none
+abbrev pub extent : Option Term → ℕ
+extent none = 0
+extent (some φ) = size φ
 
--- a side that is not there
-abbrev pub noSide : Facts
-noSide = record {
-  words = 0;
-  unit = false;
-  formed = false;
-  met = false;
-  units = 0;
-  noted = 0;
-  plus = 0;
-  either = 0;
-  both = 0;
-  together = 0;
-  apart = 0;
-}
+-- bits with one more below them, in 32 bits
+abbrev pub putOf : ℕ → Bool → ℕ
+putOf n b = bitOr (n * 2 ^ 1 % 2 ^ 32) (cond b 1 0)
 
--- a term of kind k from its sides; one side alone is the second
-abbrev pub aboveOf : ℕ → Bool → Bool → Bool → Facts → Facts → Facts
-aboveOf k u f m a b = record {
-  words = 1 + (a .words + b .words);
-  unit = u;
+-- a term in the place of the row's first n, which are its sides
+abbrev pub placedOf : Stack → ℕ → Bool → Bool → Bool → Stack
+placedOf s n u m f = record {
+  terms = s .terms - n + 1;
+  unit = putOf (s .unit / 2 ^ n) u;
+  met = putOf (s .met / 2 ^ n) m;
   formed = f;
-  met = m;
-  units = maskOf u (a .units) (a .words) (b .units);
-  noted = maskOf (u && m) (a .noted) (a .words) (b .noted);
-  plus = maskOf (eqb k 5) (a .plus) (a .words) (b .plus);
-  either = maskOf (eqb k 6 && not u) (a .either) (a .words) (b .either);
-  both = maskOf (eqb k 7 && not u) (a .both) (a .words) (b .both);
-  together = maskOf (eqb k 8 && not u) (a .together) (a .words) (b .together);
-  apart = maskOf (eqb k 9 && not u) (a .apart) (a .words) (b .apart);
+  units = putOf (s .units) u;
+  noted = putOf (s .noted) (u && m);
 }
 
-abbrev pub leafOf : ℕ → Bool → Facts
-leafOf k m = aboveOf k true true m noSide noSide
+abbrev pub leafOf : Stack → Bool → Stack
+leafOf s m = placedOf s 0 true m (s .formed)
 
-abbrev pub overOf : ℕ → Facts → Facts
-overOf k a = aboveOf k (eqb k 4 && a .unit) (a .unit && a .formed) (eqb k 4 && not (a .met)) noSide a
+abbrev pub overOf : Stack → ℕ → Stack
+overOf s k = placedOf s 1 (eqb k 4 && bit 0 (s .unit)) (eqb k 4 && not (bit 0 (s .met))) (bit 0 (s .unit) && s .formed)
 
-abbrev pub besideOf : ℕ → Facts → Facts → Facts
-besideOf k a b =
-    aboveOf k (ltb k 8 && (a .unit && b .unit)) (a .formed && b .formed) (meetsSides k (a .met) (b .met)) a b
+abbrev pub besideOf : Stack → ℕ → Stack
+besideOf s k =
+    placedOf s 2 (ltb k 8 && (bit 0 (s .unit) && bit 1 (s .unit))) (meetsSides k (bit 0 (s .met)) (bit 1 (s .met))) (s .formed)
 
--- what the scan finds of a term, for a user u who holds the roles of the set h
-abbrev pub facts : ℕ → ℕ → Term → Facts
-facts u h φ = record {
-  words = size φ;
-  unit = unit φ;
-  formed = wellFormed φ;
-  met = meets φ u h;
-  units = marks unit φ;
-  noted = metBits φ u h;
-  plus = marks isPlus φ;
-  either = marks (isOp either) φ;
-  both = marks (isOp both) φ;
-  together = marks (isOp together) φ;
-  apart = marks (isOp apart) φ;
-}
+-- by the sides of the word, of kind k with operand x
+abbrev pub stepOf : ℕ → ℕ → Stack → ℕ → ℕ → ℕ → Stack
+stepOf u h s k n x = cond (eqb n 0) (leafOf s (meetsLeaf k x u h)) (cond (eqb n 1) (overOf s k) (besideOf s k))
 
-abbrev pub scanned : ℕ → ℕ → Option Term → Found
-scanned u h none = Missing
-scanned u h (some φ) = Whole (facts u h φ)
+-- what is judged of the term that some words are
+abbrev pub judgedIn : ℕ → ℕ → Option Term → Judged
+judgedIn u h none = record { formed = false; units = 0; noted = 0 }
+judgedIn u h (some φ) = record { formed = wellFormed φ; units = marks unit φ; noted = metBits φ u h }
+
+-- the words of kind k
+abbrev pub ofKind : ℕ → List ℕ → ℕ
+ofKind k ws = number (map (λ w. eqb (kind w) k) ws)
+
+abbrev pub kindsOf : List ℕ → Kinds
+kindsOf ws = record { plus = ofKind 5 ws; either = ofKind 6 ws; both = ofKind 7 ws; together = ofKind 8 ws; apart = ofKind 9 ws }
+
+abbrev pub withoutOf : ℕ → ℕ → ℕ
+withoutOf m n = m - bitAnd m n
 
 -- r has the places where right sides begin in the one term that the words are, if they are one
 abbrev pub RightsOf : List ℕ → List ℕ → Type 0

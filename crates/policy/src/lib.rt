@@ -9,7 +9,7 @@ ghost use Rattle.soda.specs.Lists.{all};
 ghost use Rattle.policy.specs.Words.{kind, operand, sides, operandOk, wordOk, first, decode};
 ghost use Rattle.policy.specs.Reading.{countOk, lengthOk, numberOf, readPolicy, metOf};
 ghost use Rattle.policy.specs.Shapes.{shapeIn, shapeOf};
-ghost use Rattle.policy.specs.Scans.{known, meetsLeaf, maskOf, aboveOf, leafOf, overOf, besideOf, scanned, RightsOf};
+ghost use Rattle.policy.specs.Scans.{known, meetsLeaf, extent, putOf, placedOf, leafOf, overOf, besideOf, stepOf, judgedIn, kindsOf, withoutOf, RightsOf};
 
 // A policy read (document 01): its word count and the mask of the words that begin unit terms, or a number.
 pub enum PolicyRead {
@@ -29,15 +29,27 @@ pub struct Shape {
     pub right: [u8; 31],
 }
 
-// What the scan finds of a term: its word count, whether it is a unit term, well formed, and met by the user, and masks over its
-// words: those that begin unit terms, the unit terms that the user meets, and those of each other row of the table.
-struct Facts {
-    words: u8,
-    unit: bool,
+// A row of terms, read from the last word to the first, in bits: how many there are; whether each is a unit term and whether the
+// user meets it, the lowest bit for the first term; whether all are well formed; and masks over their words: those that begin unit
+// terms, and the unit terms that the user meets.
+struct Stack {
+    terms: u8,
+    unit: u32,
+    met: u32,
     formed: bool,
-    met: bool,
     units: u32,
     noted: u32,
+}
+
+// What is judged of the one term that words are: nothing if they are none.
+struct Judged {
+    formed: bool,
+    units: u32,
+    noted: u32,
+}
+
+// For each row of the table but "unit", the words of its kind.
+struct Kinds {
     plus: u32,
     either: u32,
     both: u32,
@@ -45,23 +57,28 @@ struct Facts {
     apart: u32,
 }
 
-// A whole term, or none.
-enum Found {
-    Whole(Facts),
-    Missing,
-}
-
 // The number of sides of a word, by its kind.
 const SIDES: [u8; 10] = [0, 0, 0, 0, 1, 1, 2, 2, 2, 2];
 
-// A side that is not there.
-const NO_SIDE: Facts = Facts {
-    words: 0,
-    unit: false,
-    formed: false,
-    met: false,
+// No term yet.
+const NO_TERMS: Stack = Stack {
+    terms: 0,
+    unit: 0,
+    met: 0,
+    formed: true,
     units: 0,
     noted: 0,
+};
+
+// No term.
+const NOTHING: Judged = Judged {
+    formed: false,
+    units: 0,
+    noted: 0,
+};
+
+// No word yet.
+const NO_KINDS: Kinds = Kinds {
     plus: 0,
     either: 0,
     both: 0,
@@ -170,104 +187,164 @@ fn meets_leaf(k: usize, x: u32, user: u8, held: u16) -> bool
     has_bit(x, user as u32) & (held != 0)
 }
 
-// A mask over a term's words: its first word's own bit, then the n bits of its first side, then those of its second.
-fn mask(own: bool, a: u32, n: u8, b: u32) -> u32
-    requires { ⌜ n < 32 ⌝ }
-    ensures { λ r. ⌜ r ≡ maskOf own a n b ⌝ }
+// The word count of the first term of the words; 0 if they begin with none.
+fn scan(words: &[u32]) -> u8
+    requires { ⌜ length (now words) ≤ 31 ⌝ }
+    ensures { λ r. ⌜ r ≡ extent (first (now (words .entry))) ⌝ }
 {
-    own as u32 | ((a | (b << n)) << 1)
+    if words.len() == 0 {
+        return 0;
+    }
+    let k = kind_of(words[0]);
+    if !is_known(k) {
+        return 0;
+    }
+    let n = sides_of(k);
+    if n == 0 {
+        return 1;
+    }
+    let a = scan(&words[1..]);
+    if a == 0 {
+        return 0;
+    }
+    if n == 1 {
+        return 1 + a;
+    }
+    let second = 1 + a as usize;
+    let b = scan(&words[second..]);
+    if b == 0 {
+        return 0;
+    }
+    1 + a + b
 }
 
-// A term of kind k from its sides; one side alone is the second.
-fn above(k: usize, unit: bool, formed: bool, met: bool, a: Facts, b: Facts) -> Facts
-    requires { ⌜ a .words + b .words ≤ 30 ⌝ }
-    ensures { λ r. ⌜ r ≡ aboveOf k unit formed met a b ⌝ }
+// Bits with one more below them.
+fn put(bits: u32, b: bool) -> u32
+    ensures { λ r. ⌜ r ≡ putOf bits b ⌝ }
 {
-    let n = a.words;
-    Facts {
-        words: 1 + (n + b.words),
-        unit,
+    (bits << 1) | b as u32
+}
+
+// The row after a word whose n sides are the row's first terms.
+fn placed(s: Stack, n: u8, unit: bool, met: bool, formed: bool) -> Stack
+    requires { ⌜ n ≤ s .terms ⌝ }
+    requires { ⌜ s .terms ≤ 31 ⌝ }
+    ensures { λ r. ⌜ r ≡ placedOf s n unit met formed ⌝ }
+{
+    Stack {
+        terms: s.terms - n + 1,
+        unit: put(s.unit >> n, unit),
+        met: put(s.met >> n, met),
         formed,
-        met,
-        units: mask(unit, a.units, n, b.units),
-        noted: mask(unit & met, a.noted, n, b.noted),
-        plus: mask(k == 5, a.plus, n, b.plus),
-        either: mask((k == 6) & !unit, a.either, n, b.either),
-        both: mask((k == 7) & !unit, a.both, n, b.both),
-        together: mask((k == 8) & !unit, a.together, n, b.together),
-        apart: mask((k == 9) & !unit, a.apart, n, b.apart),
+        units: put(s.units, unit),
+        noted: put(s.noted, unit & met),
     }
 }
 
 // A term of one word.
-fn leaf(k: usize, met: bool) -> Facts
-    ensures { λ r. ⌜ r ≡ leafOf k met ⌝ }
+fn leaf(s: Stack, met: bool) -> Stack
+    requires { ⌜ s .terms ≤ 31 ⌝ }
+    ensures { λ r. ⌜ r ≡ leafOf s met ⌝ }
 {
-    above(k, true, true, met, NO_SIDE, NO_SIDE)
+    placed(s, 0, true, met, s.formed)
 }
 
 // Not (kind 4) or plus (kind 5) over a side.
-fn over(k: usize, a: Facts) -> Facts
-    requires { ⌜ a .words ≤ 30 ⌝ }
-    ensures { λ r. ⌜ r ≡ overOf k a ⌝ }
+fn over(s: Stack, k: usize) -> Stack
+    requires { ⌜ 1 ≤ s .terms ⌝ }
+    requires { ⌜ s .terms ≤ 31 ⌝ }
+    ensures { λ r. ⌜ r ≡ overOf s k ⌝ }
 {
-    let unit = (k == 4) & a.unit;
-    let met = (k == 4) & !a.met;
-    above(k, unit, a.unit & a.formed, met, NO_SIDE, a)
+    let side = has_bit(s.unit, 0);
+    let unit = (k == 4) & side;
+    let met = (k == 4) & !has_bit(s.met, 0);
+    placed(s, 1, unit, met, side & s.formed)
 }
 
 // An operator (kinds 6 to 9) between two sides.
-fn beside(k: usize, a: Facts, b: Facts) -> Facts
-    requires { ⌜ a .words + b .words ≤ 30 ⌝ }
-    ensures { λ r. ⌜ r ≡ besideOf k a b ⌝ }
+fn beside(s: Stack, k: usize) -> Stack
+    requires { ⌜ 2 ≤ s .terms ⌝ }
+    requires { ⌜ s .terms ≤ 31 ⌝ }
+    ensures { λ r. ⌜ r ≡ besideOf s k ⌝ }
 {
-    let unit = (k < 8) & (a.unit & b.unit);
-    let met = ((k == 6) & (a.met | b.met)) | ((k == 7) & (a.met & b.met));
-    above(k, unit, a.formed & b.formed, met, a, b)
+    let unit = (k < 8) & (has_bit(s.unit, 0) & has_bit(s.unit, 1));
+    let a = has_bit(s.met, 0);
+    let b = has_bit(s.met, 1);
+    let met = ((k == 6) & (a | b)) | ((k == 7) & (a & b));
+    placed(s, 2, unit, met, s.formed)
 }
 
-// The first term of the words, judged for a user who holds these roles. Its masks count from its own first word.
-fn scan(words: &[u32], user: u8, held: u16) -> Found
-    requires { ⌜ length (now words) ≤ 31 ⌝ }
-    ensures { λ r. ⌜ r ≡ scanned user held (first (now (words .entry))) ⌝ }
+// The row after a word of kind k, with n sides and operand x.
+fn step(s: Stack, k: usize, n: u8, x: u32, user: u8, held: u16) -> Stack
+    requires { ⌜ n ≤ s .terms ⌝ }
+    requires { ⌜ s .terms ≤ 31 ⌝ }
+    ensures { λ r. ⌜ r ≡ stepOf user held s k n x ⌝ }
 {
-    if words.len() == 0 {
-        return Found::Missing;
-    }
-    let w = words[0];
-    let k = kind_of(w);
-    if !is_known(k) {
-        return Found::Missing;
-    }
-    let n = sides_of(k);
     if n == 0 {
-        return Found::Whole(leaf(k, meets_leaf(k, operand_of(w), user, held)));
+        return leaf(s, meets_leaf(k, x, user, held));
     }
-    let Found::Whole(a) = scan(&words[1..], user, held) else {
-        return Found::Missing;
-    };
     if n == 1 {
-        return Found::Whole(over(k, a));
+        return over(s, k);
     }
-    let second = 1 + a.words as usize;
-    let Found::Whole(b) = scan(&words[second..], user, held) else {
-        return Found::Missing;
-    };
-    Found::Whole(beside(k, a, b))
+    beside(s, k)
 }
 
-// The term that the words are, no word left over.
-fn whole(words: &[u32], user: u8, held: u16) -> Found
+// The one term that the words are, judged for a user who holds these roles; only what is noted depends on them.
+fn judge(words: &[u32], user: u8, held: u16) -> Judged
     requires { ⌜ length (now words) ≤ 31 ⌝ }
-    ensures { λ r. ⌜ r ≡ scanned user held (decode (now (words .entry))) ⌝ }
+    ensures { λ r. ⌜ r ≡ judgedIn user held (decode (now (words .entry))) ⌝ }
 {
-    let Found::Whole(t) = scan(words, user, held) else {
-        return Found::Missing;
-    };
-    if t.words as usize == words.len() {
-        return Found::Whole(t);
+    let mut s = NO_TERMS;
+    let mut i = words.len();
+    while 0 < i {
+        i -= 1;
+        let w = words[i];
+        let k = kind_of(w);
+        if !is_known(k) {
+            return NOTHING;
+        }
+        let n = sides_of(k);
+        if s.terms < n {
+            return NOTHING;
+        }
+        s = step(s, k, n, operand_of(w), user, held);
     }
-    Found::Missing
+    if s.terms != 1 {
+        return NOTHING;
+    }
+    Judged {
+        formed: s.formed,
+        units: s.units,
+        noted: s.noted,
+    }
+}
+
+// The words of each kind.
+fn kind_masks(words: &[u32]) -> Kinds
+    requires { ⌜ length (now words) ≤ 31 ⌝ }
+    ensures { λ r. ⌜ r ≡ kindsOf (now (words .entry)) ⌝ }
+{
+    let mut m = NO_KINDS;
+    let mut i = words.len();
+    while 0 < i {
+        i -= 1;
+        let k = kind_of(words[i]);
+        m = Kinds {
+            plus: put(m.plus, k == 5),
+            either: put(m.either, k == 6),
+            both: put(m.both, k == 7),
+            together: put(m.together, k == 8),
+            apart: put(m.apart, k == 9),
+        };
+    }
+    m
+}
+
+// A set without the members of another.
+fn without(set: u32, out: u32) -> u32
+    ensures { λ r. ⌜ r ≡ withoutOf set out ⌝ }
+{
+    set - (set & out)
 }
 
 // Where the right side begins of the term at each word. Sides stand behind their word, so from the last word to the first it is
@@ -321,9 +398,10 @@ pub fn read(users: u8, roles: u8, words: &[u32]) -> PolicyRead
     if !words_ok(users, roles, words) {
         return PolicyRead::Refused(2);
     }
-    let Found::Whole(t) = whole(words, 0, 0) else {
+    if scan(words) as usize != words.len() {
         return PolicyRead::Refused(3);
-    };
+    }
+    let t = judge(words, 0, 0);
     if !t.formed {
         return PolicyRead::Refused(4);
     }
@@ -350,9 +428,7 @@ pub fn met(words: &[u32], user: u8, held: u16) -> u32
     if !length_ok(words.len()) {
         return 0;
     }
-    let Found::Whole(t) = whole(words, user, held) else {
-        return 0;
-    };
+    let t = judge(words, user, held);
     t.noted
 }
 
@@ -363,21 +439,20 @@ pub fn shape_of(words: &[u32]) -> Shape
     if !length_ok(words.len()) {
         return no_shape();
     }
-    let Found::Whole(t) = whole(words, 0, 0) else {
-        return no_shape();
-    };
+    let t = judge(words, 0, 0);
     if !t.formed {
         return no_shape();
     }
+    let m = kind_masks(words);
     let right = rights(words);
     Shape {
-        words: t.words,
+        words: words.len() as u8,
         units: t.units,
-        plus: t.plus,
-        either: t.either,
-        both: t.both,
-        together: t.together,
-        apart: t.apart,
+        plus: m.plus,
+        either: without(m.either, t.units),
+        both: without(m.both, t.units),
+        together: without(m.together, t.units),
+        apart: without(m.apart, t.units),
         right,
     }
 }

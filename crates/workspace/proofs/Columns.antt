@@ -19,7 +19,7 @@ use Rattle.soda.proofs.Bits.{bit-of-zero}
 use Rattle.policy.specs.Shapes.{rightSides}
 use Rattle.policy.specs.declared.Shape.{Shape}
 use Rattle.workspace.specs.Workspace.{range, judged, rowOf, column, tableOf, filled}
-use Rattle.workspace.specs.Steps.{Masked, Ascending, Suited, Tables, Known, Cleared, Kept, Entered, AddedAll, Shaped}
+use Rattle.workspace.specs.Steps.{Masked, Ascending, Suited, Tables, Known, Cleared, Entered, AddedAll, RowsStand, Shaped}
 use Rattle.workspace.specs.declared.Action.{Action}
 use Rattle.workspace.specs.declared.Masks.{Masks}
 use Rattle.workspace.proofs.Digits.{lt-or-le, bit-ones}
@@ -57,11 +57,20 @@ module _ {p : Shape} (w : Shaped p) where
   suited m h = record { formed = w .formed; short = w .short; masked = subst (λ q. Masked q m) (w .is) h; placed = placed }
 
 -- ── the empty set ──
-pub known-first : {m : Masks} {places : List ℕ} {t t′ : Tables} → Entered m places 0 0 4294967295 t t′ → (φ : Term) (l : List Action) → Suited φ m places → Known φ l t′ 1
+known-first : {m : Masks} {places : List ℕ} {t t′ : Tables} → Entered m places 0 0 4294967295 t t′ → (φ : Term) (l : List Action) → Suited φ m places → Known φ l t′ 1
 known-first e φ l u = e .known φ l u (pow-pos (length l))
     (λ v. bit-of-zero v ∙ sym (ap (λ k. acts (λ (a : Action). a .user) v k) (select-none l)))
     (λ i h. bit-ones 32 i ∙ lt-ltb i 32 h ∙ sym (ap (all (λ (a : Action). bit i (a .met))) (select-none l)))
     (λ x h. absurd (omega arith))
+
+-- the empty set, then all others
+pub rows-stand : {m : Masks} {places : List ℕ} {l : List Action} {t first t′ : Tables} (n : ℕ) → Entered m places 0 0 4294967295 t first → AddedAll m places l (2 ^ n) first t′
+    → RowsStand m places l (2 ^ n) (t .workspace) (t′ .workspace)
+rows-stand {l = l} n e a = record {
+  satisfied = λ φ u x b. a .known φ u (known-first e φ l u) x b .satisfied;
+  possible = λ φ u x b. a .known φ u (known-first e φ l u) x b .possible;
+  kept = kept-more (pow-pos n) (e .kept) (a .kept);
+}
 
 -- the users of the taken actions
 pub taken-user : (l : List Action) (n j : ℕ) → So (all (λ a. ltb (a .user) 16) (take n l)) → j < n → j < length l → getD l j (record { user = 0; met = 0 }) .user < 16
@@ -168,12 +177,13 @@ whole-is φ l n room after h k b e w = ext-getD 0 after (filled φ L room) (e �
         let z : 8192 + (i - 8192) ≡ i = omega arith in
         w .rest i d ∙ subst (λ m. getD room m 0 ≡ getD (filled φ L room) m 0) z (sym (filled-rest φ L cap room (i - 8192)))
 
-pub whole : {m : Masks} {places : List ℕ} {l : List Action} {first t : Tables} (φ : Term) (n : ℕ) (room cleared : List ℕ) → n ≤ 12 → Cleared 8192 room cleared
-    → Kept 1 cleared (first .workspace) → AddedAll m places l (2 ^ n) first t → Suited φ m places → Known φ l first 1 → Whole φ l n room (t .workspace)
-whole φ n room cleared h c k a u g = let kept = kept-more (pow-pos n) k (a .kept) in record {
-  satisfied = λ x b. a .known φ u g x b .satisfied;
-  possible = λ x b. a .known φ u g x b .possible;
-  low = λ x p b. kept .low x p b ∙ c .zeros x (omega arith);
-  high = λ x p b. kept .high x p ∙ c .zeros x b;
-  rest = λ x p. kept .high x (omega (arith, pow-mono {j = 12} h)) ∙ c .stay x p;
+-- the rows in a workspace that was cleared
+pub whole : {m : Masks} {places : List ℕ} {l : List Action} (φ : Term) (n : ℕ) (room cleared after : List ℕ) → n ≤ 12 → Cleared 8192 room cleared
+    → RowsStand m places l (2 ^ n) cleared after → Suited φ m places → Whole φ l n room after
+whole φ n room cleared after h c r u = record {
+  satisfied = r .satisfied φ u;
+  possible = r .possible φ u;
+  low = λ x p b. r .kept .low x p b ∙ c .zeros x (omega arith);
+  high = λ x p b. r .kept .high x p ∙ c .zeros x b;
+  rest = λ x p. r .kept .high x (omega (arith, pow-mono {j = 12} h)) ∙ c .stay x p;
 }

@@ -10,10 +10,10 @@ use lib.Arith.{lt-one}
 use lib.Bits.{bitAnd, bitOr, and-shr, or-shr, and-mod, or-mod, and-mask}
 use lib.Dec.{eqb, ltb}
 use lib.ListN.{getD, replicate, length-replicate, getD-replicate, List·getD-eq-default}
-use lib.Pow.{pow-pos, pow-mono, shr-shr, high, low, shl-exact}
+use lib.Pow.{pow-pos, shr-shr, high, low, shl-exact}
 use Rattle.soda.specs.Bits.{bit, number, setBit}
-use Rattle.soda.proofs.Bools.{not-so, Order, less, same, more, order}
-use Rattle.soda.proofs.Bits.{bit-suc, bit-of-zero, bit-le, bit-setBit, bit-number, some-bit}
+use Rattle.soda.proofs.Bools.{Order, less, same, more, order}
+use Rattle.soda.proofs.Bits.{bit-suc, bit-of-zero, bit-setBit, bit-number, some-bit}
 use Rattle.workspace.specs.Steps.{place, Packed}
 
 -- two cases of two numbers
@@ -58,10 +58,6 @@ bit-or i a b =
 
 pub bit-shr : (i k x : ℕ) → bit i (x / 2 ^ k) ≡ bit (k + i) x
 bit-shr i k x = ap (λ n. eqb (n % 2) 1) (shr-shr x k i)
-
--- past a number's length there is no digit
-pub bit-past : (k i n : ℕ) → n < 2 ^ k → k ≤ i → bit i n ≡ false
-bit-past k i n h l = not-so (bit i n) (λ e. let m = bit-le i n e in let p = pow-mono l in omega arith)
 
 pub bit-power : (j i : ℕ) → bit j (2 ^ i) ≡ eqb j i
 unfolding setBit

@@ -8,7 +8,7 @@ use native.Mathlib.Nat.{eq-or-lt-of-le, pow-suc, lt-of-lt-of-le}
 use native.Mathlib.Omega.{arith}
 use lib.Bits.{bitAnd, bitOr}
 use lib.Dec.{eqb}
-use lib.ListN.{length, getD, set, length-set, length-map, List·getD-eq-default}
+use lib.ListN.{length, getD, set, length-set, length-map, replicate, length-replicate, List·getD-eq-default}
 use lib.Pow.{pow-mono}
 use lib.Seq.{getD-set-same, getD-set-other}
 use Rattle.soda.specs.Bits.{bit, number}
@@ -62,7 +62,7 @@ before : {x s : ℕ} → x < s → (l : List ℕ) (v : ℕ) → getD (set l s v)
 before {x} {s} h l v = getD-set-other l s x v 0 (λ q. omega arith)
 
 module _ (m : Masks) (places : List ℕ) (s who met : ℕ) (t : Tables) (row right low high : ℕ)
-    (h : s < 4096) (n : Long t) (r : RowOf m places (t .left) (t .right) (t .users) met s row right)
+    (h : s < 4096) (n : Long (s + 1) t) (r : RowOf m places (t .left) (t .right) (t .users) met s row right)
     (is-low : Column false row low) (is-high : Column true row high) (low-fits : low < 2 ^ 32) (high-fits : high < 2 ^ 32) where
   abbrev pub after : Tables
   after = tables (set (t .left) s (row / 2 ^ 1)) (set (t .right) s right) (set (t .users) s who) (set (t .met) s met) (set (set (t .workspace) s low) (4096 + s) high)
@@ -159,13 +159,25 @@ pub record Same (t t′ : Tables) : Type 0 where
 pub same-refl : (t : Tables) → Same t t
 same-refl t = record { left = refl; right = refl; users = refl; met = refl; workspace = refl }
 
-pub long-same : {t t′ : Tables} → Long t → Same t t′ → Long t′
-long-same n s = record {
-  left = s .left ∙ n .left;
-  right = s .right ∙ n .right;
-  users = s .users ∙ n .users;
-  met = s .met ∙ n .met;
+-- tables of the same lengths have a place for as many sets or fewer
+pub long-same : {k n : ℕ} {t t′ : Tables} → k ≤ n → Long n t → Same t t′ → Long k t′
+long-same h n s = record {
+  left = omega (arith, n .left, s .left);
+  right = omega (arith, n .right, s .right);
+  users = omega (arith, n .users, s .users);
+  met = omega (arith, n .met, s .met);
   workspace = omega (arith, n .workspace, s .workspace);
+}
+
+-- new tables of n places, with a workspace
+pub long-blank : {j : ℕ} (n : ℕ) {workspace : List ℕ} → j ≤ n → 8192 ≤ length workspace
+    → Long j (tables (replicate n 0) (replicate n 0) (replicate n 0) (replicate n 0) workspace)
+long-blank n h w = let b : length {A = ℕ} (replicate n 0) ≡ n = length-replicate n 0 in record {
+  left = omega arith;
+  right = omega arith;
+  users = omega arith;
+  met = omega arith;
+  workspace = w;
 }
 
 pub same-trans : {t t′ t″ : Tables} → Same t t′ → Same t′ t″ → Same t t″
@@ -193,8 +205,11 @@ module _ (m : Masks) (places : List ℕ) (j : ℕ) (a : Action) (T : Tables) (us
     pub add-next : Next (top + t) t
     add-next = record { last = j; is = ap (λ n. n + t) (g .is-top); below = subst (λ n. t < n) (g .is-top) h }
 
+    pub add-room : top + t + 1 ≤ 2 ^ (j + 1)
+    add-room = let s : j + 1 ≡ suc j = omega arith in omega (arith, g .is-top, pow-suc 2 j, ap (λ n. 2 ^ n) s)
+
     pub add-below : j < 12 → top + t < 4096
-    add-below b = omega (arith, g .is-top, pow-suc 2 j, pow-mono {i = suc j} {j = 12} b)
+    add-below b = omega (arith, add-room, pow-mono {i = j + 1} {j = 12} (omega arith))
 
     pub add-turn : (T″ : Tables) → Same T′ T″
         → Entered m places (top + t) (bitOr (getD (T′ .users) t 0) user) (bitAnd (getD (T′ .met) t 0) (a .met)) T′ T″ → Adding m places j a T T″ user top (t + 1)

@@ -43,12 +43,6 @@ module _ {A : Type 0} where
   select-none [] = refl
   select-none (x ∷ l) = select-none l
 
-  select-odd : (s : ℕ) (x : A) (l : List A) → bit 0 s ≡ true → select s (x ∷ l) ≡ x ∷ select (s / 2) l
-  select-odd s x l e = ap (λ b. cond b (x ∷ select (s / 2) l) (select (s / 2) l)) e
-
-  select-even : (s : ℕ) (x : A) (l : List A) → bit 0 s ≡ false → select s (x ∷ l) ≡ select (s / 2) l
-  select-even s x l e = ap (λ b. cond b (x ∷ select (s / 2) l) (select (s / 2) l)) e
-
   -- as many as the mask has digits
   pub length-select : (l : List A) (s : ℕ) → s < 2 ^ length l → length (select s l) ≡ ones s
   unfolding ones

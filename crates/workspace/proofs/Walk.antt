@@ -1,109 +1,148 @@
--- The loop over the parts a, (a - 1) & t, .. of t, where s is t with one action more: each part of s, or else the rest of s without
--- it, is a part of t, so the loop that takes both meets every part of s.
+-- The loop over the parts of t, where s is t with one action more: each part of s, or else the rest of s without it, is a part of t,
+-- so the loop that takes both meets every part of s. It walks by a, (a - 1) & high, .. over the parts of `high`, which is t without
+-- its lowest action, and takes each with and without that action.
 use mathlib.Core.Path.{_≡_, refl, sym, _∙_, ap, subst}
 use mathlib.Core.Bool.{Bool, true, false, So, _&&_, _||_, cond, true≢false, and-true, or-true, and-or-distrib-right}
 use mathlib.Core.List.{List}
 use mathlib.Core.Logic.{_⊎_, inl, inr, ⊎-elim}
-use Prim.Native.Nat.{ℕ, _-_, _^_, _≤_, _<_}
+use Prim.Native.Nat.{ℕ, zero, suc, _+_, _-_, _^_, _≤_, _<_}
 use native.Mathlib.Omega.{arith}
-use lib.Bits.{bitAnd, bitOr, and-self, and-comm}
+use lib.Bits.{bitAnd, bitOr, and-self, and-comm, and-zero-l}
 use lib.Dec.{eqb}
 use lib.ListN.{getD}
 use lib.Pow.{pow-pos}
 use Rattle.soda.specs.Bits.{bit}
 use Rattle.soda.proofs.Bools.{and-split, and-join, or-split, or-left, or-right, Order, less, same, more, order}
 use Rattle.soda.proofs.Bits.{bit-of-zero}
-use Rattle.workspace.specs.Steps.{Part, Joined, Next, matched, allowed}
+use Rattle.workspace.specs.Steps.{Part, Parted, Joined, Next, matched, allowed}
 use Rattle.workspace.proofs.Digits.{lt-or-le, bit-and, bit-or}
-use Rattle.workspace.proofs.Submask.{Within, within-le, and-within, rest-within, walk, within-more, within-less}
+use Rattle.workspace.proofs.Submask.{Within, Lowest, within-le, and-within, rest-within, walk, within-more, within-less}
 
--- what is gathered in r of the parts of t above a
-pub record At (f : ℕ → ℕ → Bool) (s t a r : ℕ) : Type 0 where
-  pub within : Within a t
+-- ── the parts of s by those of t ──
+module _ (f : ℕ → ℕ → Bool) (s t : ℕ) (n : Next s t) where
+  part : (a : ℕ) → 0 < a → Within a t → Part a s
+  part a h w =
+      let l = within-le a t w in
+      let p = pow-pos (n .last) in
+      record {
+        some = h;
+        less = omega (arith, n .is);
+        within = subst (Within a) (sym (n .is)) (within-more (n .last) t (n .below) a (omega (arith, n .below)) w);
+      }
+
+  -- what a part of t or the rest of s without it has
+  of-part : (a r : ℕ) → 0 < a → Within a t → Parted f s a r → (q : ℕ) → So (bit q r) → (x : ℕ) × Part x s × So (f x q)
+  of-part a r h w e q b = ⊎-elim (λ c. (a, p, c)) (λ c. (s - a, rest, c)) (or-split (f a q) (f (s - a) q) (sym (e q) ∙ b))
+    where
+      p : Part a s
+      p = part a h w
+
+      rest : Part (s - a) s
+      rest = record { some = omega (arith, p .less); less = omega (arith, p .some, p .less); within = rest-within a s (p .within) }
+
+  -- so the parts of t and their rests are all there are
+  all-parts : (r : ℕ) → ((q : ℕ) → So (bit q r) → (x : ℕ) × Part x s × So (f x q))
+      → ((q x : ℕ) → 0 < x → Within x t → So (f x q || f (s - x) q) → So (bit q r)) → Joined f s r
+  all-parts r found each = record { found = found; each = λ q x p e. go q x p e (lt-or-le x (2 ^ n .last)) }
+    where
+      go : (q x : ℕ) → Part x s → So (f x q) → (x < 2 ^ n .last) ⊎ (2 ^ n .last ≤ x) → So (bit q r)
+      go q x p e (inl l) =
+          each q x (p .some) (within-less (n .last) t (n .below) x l (subst (Within x) (n .is) (p .within))) (or-left (f x q) (f (s - x) q) e)
+      go q x p e (inr l) =
+          let m = p .less in
+          let b = n .is in
+          let y : s - (s - x) ≡ x = omega arith in
+          let w = within-less (n .last) t (n .below) (s - x) (omega (arith, n .below)) (subst (Within (s - x)) (n .is) (rest-within x s (p .within))) in
+          each q (s - x) (omega arith) w (or-right (f (s - x) q) (f (s - (s - x)) q) (subst (λ z. So (f z q)) (sym y) e))
+
+  -- one action has no part
+  pub joined-one : t ≡ 0 → Joined f s 0
+  joined-one z = all-parts 0 (λ q e. absurd (true≢false (sym e ∙ bit-of-zero q))) (λ q x h w e. absurd (omega (arith, within-le x t w)))
+
+-- ── the walk ──
+-- what is gathered in r: t's lowest action alone, and the parts of the others above a, with and without it
+pub record At (f : ℕ → ℕ → Bool) (s t high a r : ℕ) : Type 0 where
+  pub within : Within a high
   pub found : (q : ℕ) → So (bit q r) → (x : ℕ) × Part x s × So (f x q)
-  pub each : (q x : ℕ) → a < x → Within x t → So (f x q || f (s - x) q) → So (bit q r)
+  pub alone : (q : ℕ) → So (f (t - high) q || f (s - (t - high)) q) → So (bit q r)
+  pub plain : (q x : ℕ) → a < x → Within x high → So (f x q || f (s - x) q) → So (bit q r)
+  pub more : (q x : ℕ) → a < x → Within x high → So (f (x + (t - high)) q || f (s - (x + (t - high))) q) → So (bit q r)
 
-pub next-le : {s t : ℕ} → Next s t → t ≤ s
-next-le n = omega (arith, n .is)
-
-module _ (f : ℕ → ℕ → Bool) (s t : ℕ) where
-  pub begin : At f s t t 0
-  begin = record {
-    within = and-self t;
-    found = λ q e. absurd (true≢false (sym e ∙ bit-of-zero q));
-    each = λ q x l w e. absurd (omega (arith, within-le x t w));
+module _ (f : ℕ → ℕ → Bool) (s t high : ℕ) (n : Next s t) (l : Lowest t high) where
+  pub begin : (r : ℕ) → Parted f s (t - high) r → At f s t high high r
+  begin r e = record {
+    within = and-self high;
+    found = of-part f s t n (t - high) r (omega (arith, l .less)) first e;
+    alone = λ q b. e q ∙ b;
+    plain = λ q x b w c. absurd (omega (arith, within-le x high w));
+    more = λ q x b w c. absurd (omega (arith, within-le x high w));
   }
+    where
+      first : Within (t - high) t
+      first = let z : 0 + (t - high) ≡ t - high = omega arith in subst (λ x. Within x t) z (l .more 0 (and-zero-l high))
 
-  module _ (n : Next s t) where
-    part : (a : ℕ) → 0 < a → Within a t → Part a s
-    part a h w =
-        let l = within-le a t w in
-        let p = pow-pos (n .last) in
-        record {
-          some = h;
-          less = omega (arith, n .is);
-          within = subst (Within a) (sym (n .is)) (within-more (n .last) t (n .below) a (omega (arith, n .below)) w);
-        }
+  -- so a turn's parts are no larger than s
+  pub inside : (a r : ℕ) → At f s t high a r → (a ≤ high) × (high < t) × (t ≤ s)
+  inside a r g = (within-le a high (g .within), l .less, omega (arith, n .is))
 
-    rest : (a : ℕ) → Part a s → Part (s - a) s
-    rest a p = record { some = omega (arith, p .less); less = omega (arith, p .some, p .less); within = rest-within a s (p .within) }
+  pub next : (a r p p′ : ℕ) → 0 < a → At f s t high a r → Parted f s a p → Parted f s (a + (t - high)) p′ → At f s t high (bitAnd (a - 1) high) (bitOr r (bitOr p p′))
+  next a r p p′ h g e e′ = record {
+    within = and-within (a - 1) high;
+    found = λ q b. ⊎-elim (g .found q) (λ b′. ⊎-elim (of-part f s t n a p h (l .plain a (g .within)) e q)
+        (of-part f s t n (a + (t - high)) p′ (omega arith) (l .more a (g .within)) e′ q) (or-split (bit q p) (bit q p′) b′))
+        (or-split (bit q r) (bit q p || bit q p′) (sym (digits q) ∙ b));
+    alone = λ q b. old q (g .alone q b);
+    plain = λ q x b w c. ⊎-elim (λ k. old q (g .plain q x k w c))
+        (λ k. new q (or-left (bit q p) (bit q p′) (e q ∙ subst (λ y. So (f y q || f (s - y) q)) (sym k) c))) (past x b w (order a x));
+    more = λ q x b w c. ⊎-elim (λ k. old q (g .more q x k w c))
+        (λ k. new q (or-right (bit q p) (bit q p′) (e′ q ∙ subst (λ y. So (f (y + (t - high)) q || f (s - (y + (t - high))) q)) (sym k) c))) (past x b w (order a x));
+  }
+    where
+      digits : (q : ℕ) → bit q (bitOr r (bitOr p p′)) ≡ (bit q r || (bit q p || bit q p′))
+      digits q = bit-or q r (bitOr p p′) ∙ ap (λ b. bit q r || b) (bit-or q p p′)
 
-    pub next : (a r r′ : ℕ) → 0 < a → At f s t a r → ((q : ℕ) → bit q r′ ≡ (bit q r || (f a q || f (s - a) q))) → At f s t (bitAnd (a - 1) t) r′
-    next a r r′ h g e = record {
-      within = and-within (a - 1) t;
-      found = λ q b. ⊎-elim (g .found q) (λ b′. ⊎-elim (λ c. (a, part a h (g .within), c)) (λ c. (s - a, rest a (part a h (g .within)), c)) (or-split (f a q) (f (s - a) q) b′))
-          (or-split (bit q r) (f a q || f (s - a) q) (sym (e q) ∙ b));
-      each = λ q x l w c. e q ∙ more-each q x l w c (order a x);
-    }
-      where
-        more-each : (q x : ℕ) → bitAnd (a - 1) t < x → Within x t → So (f x q || f (s - x) q) → Order a x → So (bit q r || (f a q || f (s - a) q))
-        more-each q x l w c (less k) = or-left (bit q r) (f a q || f (s - a) q) (g .each q x k w c)
-        more-each q x l w c (same k) = or-right (bit q r) (f a q || f (s - a) q) (subst (λ y. So (f y q || f (s - y) q)) (sym k) c)
-        more-each q x l w c (more k) = absurd (omega (arith, walk a t x (g .within) w k))
+      old : (q : ℕ) → So (bit q r) → So (bit q (bitOr r (bitOr p p′)))
+      old q b = digits q ∙ or-left (bit q r) (bit q p || bit q p′) b
 
-    pub done : (a r : ℕ) → a ≤ 0 → At f s t a r → Joined f s r
-    done a r h g = record { found = g .found; each = λ q x p e. go q x p e (lt-or-le x (2 ^ n .last)) }
-      where
-        go : (q x : ℕ) → Part x s → So (f x q) → (x < 2 ^ n .last) ⊎ (2 ^ n .last ≤ x) → So (bit q r)
-        go q x p e (inl l) =
-            g .each q x (omega (arith, p .some)) (within-less (n .last) t (n .below) x l (subst (Within x) (n .is) (p .within))) (or-left (f x q) (f (s - x) q) e)
-        go q x p e (inr l) =
-            let m = p .less in
-            let b = n .is in
-            let y : s - (s - x) ≡ x = omega arith in
-            let w = within-less (n .last) t (n .below) (s - x) (omega (arith, n .below)) (subst (Within (s - x)) (n .is) (rest-within x s (p .within))) in
-            g .each q (s - x) (omega arith) w (or-right (f (s - x) q) (f (s - (s - x)) q) (subst (λ z. So (f z q)) (sym y) e))
+      new : (q : ℕ) → So (bit q p || bit q p′) → So (bit q (bitOr r (bitOr p p′)))
+      new q b = digits q ∙ or-right (bit q r) (bit q p || bit q p′) b
 
--- ── one more part and its rest ──
+      past : (x : ℕ) → bitAnd (a - 1) high < x → Within x high → Order a x → (a < x) ⊎ (a ≡ x)
+      past x b w (less k) = inl k
+      past x b w (same k) = inr k
+      past x b w (more k) = absurd (omega (arith, walk a high x (g .within) w k))
+
+  pub done : (a r : ℕ) → a ≤ 0 → At f s t high a r → Joined f s r
+  done a r h g = all-parts f s t n r (g .found) (λ q x k w c. go q x k c (l .split x w))
+    where
+      go : (q x : ℕ) → 0 < x → So (f x q || f (s - x) q) → (y : ℕ) × Within y high × ((x ≡ y) ⊎ (x ≡ y + (t - high))) → So (bit q r)
+      go q x k c (y, w, inl e) = g .plain q x (omega arith) (subst (λ z. Within z high) (sym e) w) c
+      go q x k c (zero, w, inr e) = g .alone q (subst (λ z. So (f z q || f (s - z) q)) (let z : x ≡ t - high = omega arith in z) c)
+      go q x k c (suc y, w, inr e) = g .more q (suc y) (omega arith) w (subst (λ z. So (f z q || f (s - z) q)) e c)
+
+-- ── a part and its rest ──
 -- the rows of a part and of its rest, both ways
-abbrev pub rows : List ℕ → List ℕ → ℕ → ℕ → ℕ
+abbrev rows : List ℕ → List ℕ → ℕ → ℕ → ℕ
 rows left right s a = bitOr (bitAnd (getD left a 0) (getD right (s - a) 0)) (bitAnd (getD left (s - a) 0) (getD right a 0))
 
-module _ (left right : List ℕ) (s acc a q : ℕ) (h : a ≤ s) where
+module _ (left right : List ℕ) (s a : ℕ) (h : a ≤ s) where
   back : s - (s - a) ≡ a
   back = omega arith
 
-  rows-bit : bit q (rows left right s a) ≡ (matched left right s a q || matched left right s (s - a) q)
-  rows-bit = simp (bit-or, bit-and, back)
-
-  pub pair : bit q (bitOr acc (rows left right s a)) ≡ (bit q acc || (matched left right s a q || matched left right s (s - a) q))
-  pair = bit-or q acc (rows left right s a) ∙ ap (λ b. bit q acc || b) rows-bit
+  pub rows-parted : Parted (matched left right s) s a (rows left right s a)
+  rows-parted q = simp (bit-or, bit-and, back)
 
   -- where users are compared
-  pub pair-apart : (users : List ℕ) (anyone r : ℕ)
-      → r ≡ cond (eqb (bitAnd (getD users a 0) (getD users (s - a) 0)) 0) (rows left right s a) (bitAnd (rows left right s a) anyone)
-      → bit q (bitOr acc r)
-      ≡ (bit q acc || (matched left right s a q && allowed users anyone s a q || matched left right s (s - a) q && allowed users anyone s (s - a) q))
-  pair-apart users anyone r e =
-      bit-or q acc r
-      ∙ ap (λ b. bit q acc || b)
-      (ap (bit q) e ∙ chosen (eqb (bitAnd (getD users a 0) (getD users (s - a) 0)) 0) ∙ ap (λ b. b && allowed users anyone s a q) rows-bit
+  pub kept-parted : (users : List ℕ) (anyone x r : ℕ) → Parted (matched left right s) s a x
+      → r ≡ cond (eqb (bitAnd (getD users a 0) (getD users (s - a) 0)) 0) x (bitAnd x anyone) → Parted (λ x q. matched left right s x q && allowed users anyone s x q) s a r
+  kept-parted users anyone x r p e q =
+      ap (bit q) e ∙ chosen (eqb (bitAnd (getD users a 0) (getD users (s - a) 0)) 0) ∙ ap (λ b. b && allowed users anyone s a q) (p q)
       ∙ and-or-distrib-right (matched left right s a q) (matched left right s (s - a) q) (allowed users anyone s a q)
-      ∙ ap (λ n. matched left right s a q && allowed users anyone s a q || matched left right s (s - a) q && (eqb n 0 || bit q anyone)) turned)
+      ∙ ap (λ n. matched left right s a q && allowed users anyone s a q || matched left right s (s - a) q && (eqb n 0 || bit q anyone)) turned
     where
-      chosen : (c : Bool) → bit q (cond c (rows left right s a) (bitAnd (rows left right s a) anyone)) ≡ (bit q (rows left right s a) && (c || bit q anyone))
-      chosen true = sym (and-true (bit q (rows left right s a)))
-      chosen false = bit-and q (rows left right s a) anyone
+      chosen : (c : Bool) → bit q (cond c x (bitAnd x anyone)) ≡ (bit q x && (c || bit q anyone))
+      chosen true = sym (and-true (bit q x))
+      chosen false = bit-and q x anyone
 
       turned : bitAnd (getD users a 0) (getD users (s - a) 0) ≡ bitAnd (getD users (s - a) 0) (getD users (s - (s - a)) 0)
       turned = and-comm (getD users a 0) (getD users (s - a) 0) ∙ rw back

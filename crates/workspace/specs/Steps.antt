@@ -46,7 +46,11 @@ pub record Part (x s : ℕ) : Type 0 where
   pub less : x < s
   pub within : bitAnd x s ≡ x
 
--- digit q of r says whether f holds at q of such a part
+-- digit q of r says whether f holds at q of the part x of s or of the rest
+abbrev pub Parted : (ℕ → ℕ → Bool) → ℕ → ℕ → ℕ → Type 0
+Parted f s x r = (q : ℕ) → bit q r ≡ (f x q || f (s - x) q)
+
+-- digit q of r says whether f holds at q of some part that is neither empty nor s
 pub record Joined (f : ℕ → ℕ → Bool) (s r : ℕ) : Type 0 where
   pub found : (q : ℕ) → So (bit q r) → (x : ℕ) × Part x s × So (f x q)
   pub each : (q x : ℕ) → Part x s → So (f x q) → So (bit q r)
@@ -142,12 +146,12 @@ pub record Tables : Type 0 where
 abbrev pub tables : List ℕ → List ℕ → List ℕ → List ℕ → List ℕ → Tables
 tables left right users met workspace = record { left = left; right = right; users = users; met = met; workspace = workspace }
 
--- each has a place for every set of twelve actions
-pub record Long (t : Tables) : Type 0 where
-  pub left : length (t .left) ≡ 4096
-  pub right : length (t .right) ≡ 4096
-  pub users : length (t .users) ≡ 4096
-  pub met : length (t .met) ≡ 4096
+-- each has a place for every set below n
+pub record Long (n : ℕ) (t : Tables) : Type 0 where
+  pub left : n ≤ length (t .left)
+  pub right : n ≤ length (t .right)
+  pub users : n ≤ length (t .users)
+  pub met : n ≤ length (t .met)
   pub workspace : 8192 ≤ length (t .workspace)
 
 -- what stands in the tables for the set x of the actions l
@@ -184,6 +188,12 @@ pub record Added (m : Masks) (places : List ℕ) (j : ℕ) (a : Action) (n : ℕ
 pub record AddedAll (m : Masks) (places : List ℕ) (l : List Action) (n : ℕ) (t t′ : Tables) : Type 0 where
   pub known : (φ : Term) → Suited φ m places → Known φ l t 1 → Known φ l t′ n
   pub kept : Kept n (t .workspace) (t′ .workspace)
+
+-- the workspace has the rows of the sets below n, and keeps its other words
+pub record RowsStand (m : Masks) (places : List ℕ) (l : List Action) (n : ℕ) (before after : List ℕ) : Type 0 where
+  pub satisfied : (φ : Term) → Suited φ m places → (x : ℕ) → x < n → getD after x 0 ≡ rowOf false φ l x
+  pub possible : (φ : Term) → Suited φ m places → (x : ℕ) → x < n → getD after (4096 + x) 0 ≡ rowOf true φ l x
+  pub kept : Kept n before after
 
 -- the shape is that of a well-formed term of at most 31 words
 pub record Shaped (p : Shape) : Type 0 where

@@ -9,7 +9,7 @@ ghost use lib.Dec.{eqb, ltb};
 ghost use lib.ListN.{length, take};
 ghost use Rattle.soda.specs.Bits.{bit};
 ghost use Rattle.soda.specs.Lists.{all};
-ghost use Rattle.workspace.specs.Steps.{Packed, Masked, Joined, Next, matched, allowed, jointly, based, Ascending, Finished, RowOf, tables, Long, Cleared, Entered, Added, AddedAll, Shaped};
+ghost use Rattle.workspace.specs.Steps.{Packed, Masked, Parted, Joined, Next, matched, allowed, jointly, based, Ascending, Finished, RowOf, tables, Long, Cleared, Entered, Added, AddedAll, RowsStand, Shaped};
 ghost use Rattle.workspace.specs.Workspace.{filled, fillOf};
 use policy::Shape;
 
@@ -78,19 +78,13 @@ fn masks_of(shape: Shape) -> Masks
     }
 }
 
-// Where a part of s stands at the left sides and the rest of s at the right sides, for some part that is neither empty nor s.
-fn joined(left: &[u64], right: &[u64], s: usize, t: usize) -> u64
-    requires { ⌜ (s < 4096) × (4096 ≤ length (now left)) × (4096 ≤ length (now right)) × Next s t ⌝ }
-    ensures { λ r. ⌜ Joined (matched (now (left .entry)) (now (right .entry)) s) s r ⌝ }
+// Where the part a of s stands at the left sides and the rest of s at the right sides, or the other way round.
+fn parted(left: &[u64], right: &[u64], s: usize, a: usize) -> u64
+    requires { ⌜ (a ≤ s) × (s < length (now left)) × (s < length (now right)) ⌝ }
+    ensures { λ r. ⌜ Parted (matched (now (left .entry)) (now (right .entry)) s) s a r ⌝ }
 {
-    let mut acc: u64 = 0;
-    let mut a = t;
-    while 0 < a {
-        let b = s - a;
-        acc = acc | ((left[a] & right[b]) | (left[b] & right[a]));
-        a = (a - 1) & t;
-    }
-    acc
+    let b = s - a;
+    (left[a] & right[b]) | (left[b] & right[a])
 }
 
 // What counts of x for two parts: where they share a user, only the words at which that does not matter.
@@ -100,28 +94,60 @@ fn kept(x: u64, shared: u16, anyone: u64) -> u64
     if shared == 0 { x } else { x & anyone }
 }
 
-// The same as joined; but where the two parts share a user, only at the words of anyone.
-fn joined_apart(left: &[u64], right: &[u64], users: &[u16], anyone: u64, s: usize, t: usize) -> u64
-    requires { ⌜ (s < 4096) × (4096 ≤ length (now left)) × (4096 ≤ length (now right)) × (4096 ≤ length (now users)) × Next s t ⌝ }
-    ensures { λ r. ⌜ Joined (λ x q. matched (now (left .entry)) (now (right .entry)) s x q && allowed (now (users .entry)) anyone s x q) s r ⌝ }
+// The same as parted; but where the two parts share a user, only at the words of anyone.
+fn parted_apart(left: &[u64], right: &[u64], users: &[u16], anyone: u64, s: usize, a: usize) -> u64
+    requires { ⌜ (a ≤ s) × (s < length (now left)) × (s < length (now right)) × (s < length (now users)) ⌝ }
+    ensures { λ r. ⌜ Parted (λ x q. matched (now (left .entry)) (now (right .entry)) s x q && allowed (now (users .entry)) anyone s x q) s a r ⌝ }
 {
-    let mut acc: u64 = 0;
-    let mut a = t;
+    let b = s - a;
+    let x = parted(left, right, s, a);
+    kept(x, users[a] & users[b], anyone)
+}
+
+// Where some part of s that is neither empty nor s stands so; t is s without its last action. The walk is over the parts of t without
+// its first action, and a turn takes a part with and without that action: a step of the walk waits for the one before.
+fn joined(left: &[u64], right: &[u64], s: usize, t: usize) -> u64
+    requires { ⌜ (0 < t) × (s < length (now left)) × (s < length (now right)) × Next s t ⌝ }
+    ensures { λ r. ⌜ Joined (matched (now (left .entry)) (now (right .entry)) s) s r ⌝ }
+{
+    let high = t & (t - 1);
+    let low = t - high;
+    let mut acc = parted(left, right, s, low);
+    let mut a = high;
     while 0 < a {
-        let b = s - a;
-        let x = (left[a] & right[b]) | (left[b] & right[a]);
-        acc = acc | kept(x, users[a] & users[b], anyone);
-        a = (a - 1) & t;
+        acc = acc | (parted(left, right, s, a) | parted(left, right, s, a + low));
+        a = (a - 1) & high;
     }
     acc
 }
 
-// The parts of s at the words of together and apart.
+// The same by parted_apart.
+fn joined_apart(left: &[u64], right: &[u64], users: &[u16], anyone: u64, s: usize, t: usize) -> u64
+    requires { ⌜ (0 < t) × (s < length (now left)) × (s < length (now right)) × (s < length (now users)) × Next s t ⌝ }
+    ensures { λ r. ⌜ Joined (λ x q. matched (now (left .entry)) (now (right .entry)) s x q && allowed (now (users .entry)) anyone s x q) s r ⌝ }
+{
+    let high = t & (t - 1);
+    let low = t - high;
+    let mut acc = parted_apart(left, right, users, anyone, s, low);
+    let mut a = high;
+    while 0 < a {
+        let one = parted_apart(left, right, users, anyone, s, a);
+        let two = parted_apart(left, right, users, anyone, s, a + low);
+        acc = acc | (one | two);
+        a = (a - 1) & high;
+    }
+    acc
+}
+
+// The parts of s at the words of together and apart; a single action has none.
 fn joints(m: Masks, left: &[u64], right: &[u64], users: &[u16], s: usize, t: usize) -> u64
-    requires { ⌜ (s < 4096) × (4096 ≤ length (now left)) × (4096 ≤ length (now right)) × (4096 ≤ length (now users)) × Next s t ⌝ }
+    requires { ⌜ (s < length (now left)) × (s < length (now right)) × (s < length (now users)) × Next s t ⌝ }
     ensures { λ r. ⌜ Joined (jointly m (now (left .entry)) (now (right .entry)) (now (users .entry)) s) s r ⌝ }
 {
     if m.joint == 0 {
+        return 0;
+    }
+    if t == 0 {
         return 0;
     }
     if m.joint == m.anyone {
@@ -179,7 +205,7 @@ fn row_of(
     s: usize,
     t: usize,
 ) -> Row
-    requires { ⌜ (s < 4096) × (4096 ≤ length (now left)) × (4096 ≤ length (now right)) × (4096 ≤ length (now users)) × Ascending (now places) × (0 < s → Next s t) ⌝ }
+    requires { ⌜ (s < 4096) × (s < length (now left)) × (s < length (now right)) × (s < length (now users)) × Ascending (now places) × (0 < s → Next s t) ⌝ }
     ensures { λ r. ⌜ RowOf m (now (places .entry)) (now (left .entry)) (now (right .entry)) (now (users .entry)) met s (r .bits) (r .right) ⌝ }
 {
     let ones = u32::count_ones(s as u32);
@@ -208,7 +234,7 @@ fn enter(
     met: &mut [u32],
     workspace: &mut [u32],
 )
-    requires { ⌜ (s < 4096) × Ascending (now places) × (0 < s → Next s t) × Long (tables (now left) (now right) (now users) (now met) (now workspace)) ⌝ }
+    requires { ⌜ (s < 4096) × Ascending (now places) × (0 < s → Next s t) × Long (s + 1) (tables (now left) (now right) (now users) (now met) (now workspace)) ⌝ }
     ensures { λ _. ⌜ Entered m (now (places .entry)) s who all
         (tables (now (left .entry)) (now (right .entry)) (now (users .entry)) (now (met .entry)) (now (workspace .entry)))
         (tables (now (left .exit)) (now (right .exit)) (now (users .exit)) (now (met .exit)) (now (workspace .exit))) ⌝ }
@@ -234,7 +260,7 @@ fn add(
     met: &mut [u32],
     workspace: &mut [u32],
 )
-    requires { ⌜ (j < 12) × (a .user < 16) × Ascending (now places) × Long (tables (now left) (now right) (now users) (now met) (now workspace)) ⌝ }
+    requires { ⌜ (j < 12) × (a .user < 16) × Ascending (now places) × Long (2 ^ (j + 1)) (tables (now left) (now right) (now users) (now met) (now workspace)) ⌝ }
     ensures { λ _. ⌜ Added m (now (places .entry)) j a (2 ^ (j + 1))
         (tables (now (left .entry)) (now (right .entry)) (now (users .entry)) (now (met .entry)) (now (workspace .entry)))
         (tables (now (left .exit)) (now (right .exit)) (now (users .exit)) (now (met .exit)) (now (workspace .exit))) ⌝ }
@@ -275,7 +301,7 @@ fn add_all(
     workspace: &mut [u32],
 )
     requires { ⌜ (taken ≤ 12) × (all (λ a. ltb (a .user) 16) (take taken actions) ≡ true) × Ascending (now places)
-        × Long (tables (now left) (now right) (now users) (now met) (now workspace)) ⌝ }
+        × Long (2 ^ taken) (tables (now left) (now right) (now users) (now met) (now workspace)) ⌝ }
     ensures { λ _. ⌜ AddedAll m (now (places .entry)) actions (2 ^ taken)
         (tables (now (left .entry)) (now (right .entry)) (now (users .entry)) (now (met .entry)) (now (workspace .entry)))
         (tables (now (left .exit)) (now (right .exit)) (now (users .exit)) (now (met .exit)) (now (workspace .exit))) ⌝ }
@@ -300,20 +326,22 @@ fn clear(workspace: &mut [u32])
     }
 }
 
-// Fills the workspace for the first taken actions, by the policy's shape: the empty set first, then action by action.
-fn fill_by(shape: Shape, actions: [Action; 12], taken: u8, workspace: &mut [u32])
-    requires { ⌜ Shaped shape × (taken ≤ 12) × (all (λ a. ltb (a .user) 16) (take taken actions) ≡ true) × (8192 ≤ length (now workspace)) ⌝ }
-    ensures { λ _. ⌜ ((w : Shaped shape) → now (workspace .exit) ≡ filled (w .term) (take taken actions) (now (workspace .entry))) ⌝ }
+// Enters the empty set, then the sets of the first taken actions.
+fn fill_tables(
+    m: Masks,
+    places: &[u8],
+    actions: [Action; 12],
+    taken: u8,
+    left: &mut [u64],
+    right: &mut [u64],
+    users: &mut [u16],
+    met: &mut [u32],
+    workspace: &mut [u32],
+)
+    requires { ⌜ (taken ≤ 12) × (all (λ a. ltb (a .user) 16) (take taken actions) ≡ true) × Ascending (now places)
+        × Long (2 ^ taken) (tables (now left) (now right) (now users) (now met) (now workspace)) ⌝ }
+    ensures { λ _. ⌜ RowsStand m (now (places .entry)) actions (2 ^ taken) (now (workspace .entry)) (now (workspace .exit)) ⌝ }
 {
-    clear(workspace);
-    let m = masks_of(shape);
-    let sides = shape.right;
-    let words = shape.words as usize;
-    let places = &sides[..words];
-    let mut left = [0u64; 4096];
-    let mut right = [0u64; 4096];
-    let mut users = [0u16; 4096];
-    let mut met = [0u32; 4096];
     enter(
         m,
         places,
@@ -321,13 +349,35 @@ fn fill_by(shape: Shape, actions: [Action; 12], taken: u8, workspace: &mut [u32]
         0,
         0,
         0xffff_ffff,
-        &mut left,
-        &mut right,
-        &mut users,
-        &mut met,
+        left,
+        right,
+        users,
+        met,
         workspace,
     );
     add_all(
+        m,
+        places,
+        actions,
+        taken,
+        left,
+        right,
+        users,
+        met,
+        workspace,
+    );
+}
+
+// With a place in each table for the sets of six actions.
+fn fill_few(m: Masks, places: &[u8], actions: [Action; 12], taken: u8, workspace: &mut [u32])
+    requires { ⌜ (taken ≤ 6) × (all (λ a. ltb (a .user) 16) (take taken actions) ≡ true) × Ascending (now places) × (8192 ≤ length (now workspace)) ⌝ }
+    ensures { λ _. ⌜ RowsStand m (now (places .entry)) actions (2 ^ taken) (now (workspace .entry)) (now (workspace .exit)) ⌝ }
+{
+    let mut left = [0u64; 64];
+    let mut right = [0u64; 64];
+    let mut users = [0u16; 64];
+    let mut met = [0u32; 64];
+    fill_tables(
         m,
         places,
         actions,
@@ -338,6 +388,79 @@ fn fill_by(shape: Shape, actions: [Action; 12], taken: u8, workspace: &mut [u32]
         &mut met,
         workspace,
     );
+}
+
+// The same of nine actions.
+fn fill_some(m: Masks, places: &[u8], actions: [Action; 12], taken: u8, workspace: &mut [u32])
+    requires { ⌜ (taken ≤ 9) × (all (λ a. ltb (a .user) 16) (take taken actions) ≡ true) × Ascending (now places) × (8192 ≤ length (now workspace)) ⌝ }
+    ensures { λ _. ⌜ RowsStand m (now (places .entry)) actions (2 ^ taken) (now (workspace .entry)) (now (workspace .exit)) ⌝ }
+{
+    let mut left = [0u64; 512];
+    let mut right = [0u64; 512];
+    let mut users = [0u16; 512];
+    let mut met = [0u32; 512];
+    fill_tables(
+        m,
+        places,
+        actions,
+        taken,
+        &mut left,
+        &mut right,
+        &mut users,
+        &mut met,
+        workspace,
+    );
+}
+
+// The same of twelve actions.
+fn fill_many(m: Masks, places: &[u8], actions: [Action; 12], taken: u8, workspace: &mut [u32])
+    requires { ⌜ (taken ≤ 12) × (all (λ a. ltb (a .user) 16) (take taken actions) ≡ true) × Ascending (now places) × (8192 ≤ length (now workspace)) ⌝ }
+    ensures { λ _. ⌜ RowsStand m (now (places .entry)) actions (2 ^ taken) (now (workspace .entry)) (now (workspace .exit)) ⌝ }
+{
+    let mut left = [0u64; 4096];
+    let mut right = [0u64; 4096];
+    let mut users = [0u16; 4096];
+    let mut met = [0u32; 4096];
+    fill_tables(
+        m,
+        places,
+        actions,
+        taken,
+        &mut left,
+        &mut right,
+        &mut users,
+        &mut met,
+        workspace,
+    );
+}
+
+// Enters all sets of the first taken actions, with tables not much larger than they need: zeroing tables for twelve actions
+// takes longer than judging few.
+fn fill_sets(m: Masks, places: &[u8], actions: [Action; 12], taken: u8, workspace: &mut [u32])
+    requires { ⌜ (taken ≤ 12) × (all (λ a. ltb (a .user) 16) (take taken actions) ≡ true) × Ascending (now places) × (8192 ≤ length (now workspace)) ⌝ }
+    ensures { λ _. ⌜ RowsStand m (now (places .entry)) actions (2 ^ taken) (now (workspace .entry)) (now (workspace .exit)) ⌝ }
+{
+    if taken <= 6 {
+        fill_few(m, places, actions, taken, workspace);
+        return;
+    }
+    if taken <= 9 {
+        fill_some(m, places, actions, taken, workspace);
+        return;
+    }
+    fill_many(m, places, actions, taken, workspace);
+}
+
+// Fills the workspace for the first taken actions, by the policy's shape.
+fn fill_by(shape: Shape, actions: [Action; 12], taken: u8, workspace: &mut [u32])
+    requires { ⌜ Shaped shape × (taken ≤ 12) × (all (λ a. ltb (a .user) 16) (take taken actions) ≡ true) × (8192 ≤ length (now workspace)) ⌝ }
+    ensures { λ _. ⌜ ((w : Shaped shape) → now (workspace .exit) ≡ filled (w .term) (take taken actions) (now (workspace .entry))) ⌝ }
+{
+    clear(workspace);
+    let m = masks_of(shape);
+    let sides = shape.right;
+    let words = shape.words as usize;
+    fill_sets(m, &sides[..words], actions, taken, workspace);
 }
 
 // Whether the users of the first taken actions are below 16.

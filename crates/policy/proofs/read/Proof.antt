@@ -1,19 +1,22 @@
 -- At each `return` the tests that led there say which number is due.
-use mathlib.Core.Path.{_≡_, refl, sym, _∙_}
-use mathlib.Core.Bool.{true, not, _&&_}
+use mathlib.Core.Path.{_≡_, refl, sym, _∙_, ap}
+use mathlib.Core.Bool.{true, not, _&&_, true≢false}
 use mathlib.Core.List.{[], _∷_}
+use mathlib.Core.Option.{Option, some, none}
+use Prim.Native.Nat.{_≤_}
 use lib.ListN.{length}
+use lib.Dec.{eqb}
 use borrow.Author.Needs.{needs}
-use borrow.Author.Tests.{not-true, not-false}
+use borrow.Author.Tests.{eq-eqb, ne-eqb, not-true, not-false}
+use Rattle.soda.specs.Terms.{Term}
 use Rattle.policy.specs.Words.{decode}
 use Rattle.policy.specs.Reading.{countOk, lengthOk, isTerm, isFormed, unitsOf, answer, readPolicy}
 use Rattle.policy.specs.Refusals.{_gives_, code}
-use Rattle.policy.proofs.Scanning.{length-most, counts-most, by-term, missing}
+use Rattle.policy.specs.Scans.{judgedIn}
+use Rattle.policy.specs.declared.Judged.{Judged}
+use Rattle.policy.proofs.Scanning.{length-least, length-most, counts-most, whole}
 use Rattle.policy.proofs.read.Statement.{statement}
 use Rattle.policy.proofs.read.Tie as tie
-
-counts-ok-requires : tie.Need-counts-ok-requires
-counts-ok-requires c κs = search needs
 
 returns : tie.Need-returns
 unfolding readPolicy
@@ -21,9 +24,6 @@ returns c = rw (sym (c .before .counts-ok .ensures) ∙ not-true (c .before .cou
 
 counts : (c : tie.Else1) → let a = c .before .before .before .args in (countOk (a .users) && countOk (a .roles)) ≡ true
 counts c = sym (c .before .counts-ok .ensures) ∙ not-false (c .before .counts-ok .result) (c .if1 .left)
-
-length-ok-requires : tie.Need-length-ok-requires
-length-ok-requires c κs = search needs
 
 returns-2 : tie.Need-returns-2
 unfolding readPolicy
@@ -52,57 +52,60 @@ late c =
     let ok = sym (c .before .words-ok .ensures) ∙ not-false (c .before .words-ok .result) (c .if3 .left) in
     rw (counts (c .before .before .before .before), long (c .before .before), ok)
 
-whole-requires : tie.Need-whole-requires
-whole-requires c κs = length-most (length (c .before .before .before .before .before .before .before .args .words .now)) (long (c .before .before))
+short : (c : tie.Else3) → length (c .before .before .before .before .before .before .before .args .words .now) ≤ 31
+short c = length-most (length (c .before .before .before .before .before .before .before .args .words .now)) (long (c .before .before))
 
-enum-known-t : tie.Need-enum-known-t
-enum-known-t c = search needs
-
-enum-told : tie.Need-enum-told
-enum-told c = search needs
+-- whether the words are one term
+is-term : (c : tie.After-scan) → let ws = c .before .before .before .before .before .before .before .before .args .words .now in
+    isTerm (decode ws) ≡ eqb (c .scan .result) (length ws)
+is-term c =
+    let ws = c .before .before .before .before .before .before .before .before .args .words .now in
+    whole ws (length-least (length ws) (long (c .before .before .before))) ∙ rw (c .scan .ensures)
 
 returns-4 : tie.Need-returns-4
 returns-4 c =
-    let e = c .before .before .before in
-    let x = decode (e .before .before .before .before .before .before .before .args .words .now) in
-    sym (late e ∙ rw (missing 0 0 x (sym (c .before .before .whole .ensures) ∙ c .enum-told .given .1)))
+    sym (late (c .before .before) ∙ rw (is-term (c .before) ∙ ne-eqb _ _ (c .if4 .taken)))
 
--- the term's facts, as the answer asks for them
-judged : (c : tie.After-known-told) →
-    let x = decode (c .before .before .before .before .before .before .before .before .before .before .before .args .words .now) in
-    let t = c .before .t .given .0 .0 in
+-- what is judged of a term, as the answer asks for it
+judged : (x : Option Term) → isTerm x ≡ true → (isFormed x ≡ judgedIn 0 0 x .formed) × (unitsOf x ≡ judgedIn 0 0 x .units)
+judged none e = absurd (true≢false (sym e))
+judged (some φ) e = (refl, refl)
+
+one : (c : tie.After-judge) → let x = decode (c .before .before .before .before .before .before .before .before .before .before .args .words .now) in
+    let t = c .judge .result in
     (isTerm x ≡ true) × (isFormed x ≡ t .formed) × (unitsOf x ≡ t .units)
-judged c =
-    let e = c .before in
-    by-term 0 0 (λ x t. (isTerm x ≡ true) × (isFormed x ≡ t .formed) × (unitsOf x ≡ t .units)) (λ φ. (refl, refl, refl))
-    (decode (e .before .before .before .before .before .before .before .before .before .before .args .words .now)) (e .t .given .0 .0)
-    (sym (e .before .before .whole .ensures) ∙ e .t .given .1)
+one c =
+    let e = c .before .before in
+    let x = decode (e .before .before .before .before .before .before .before .before .args .words .now) in
+    let i = is-term e ∙ eq-eqb _ _ (c .before .if4 .left) in
+    let j = judged x i in
+    (i, j .0 ∙ ap (λ (t : Judged). t .formed) (sym (c .judge .ensures)), j .1 ∙ ap (λ (t : Judged). t .units) (sym (c .judge .ensures)))
 
 returns-5 : tie.Need-returns-5
 returns-5 c =
-    let j = judged (c .before .before) in
-    let f = not-true (c .before .before .before .t .given .0 .0 .formed) (c .if4 .taken) in
-    sym (late (c .before .before .before .before .before .before) ∙ rw (j .0, j .1, f))
+    let j = c .before .before in
+    let o = one j in
+    sym (late (j .before .before .before) ∙ rw (o .0, o .1, not-true (j .judge .result .formed) (c .if5 .taken)))
 
 returns-6 : tie.Need-returns-6
 returns-6 c =
-    let j = judged (c .before .before) in
-    let f = not-false (c .before .before .before .t .given .0 .0 .formed) (c .if4 .left) in
-    sym (late (c .before .before .before .before .before .before) ∙ rw (j .0, j .1, f, j .2))
+    let j = c .before .before in
+    let o = one j in
+    sym (late (j .before .before .before) ∙ rw (o .0, o .1, not-false (j .judge .result .formed) (c .if5 .left), o .2))
 
 pub read-spec : {M : Type 1} → statement M
 read-spec =
     tie.close
     (tie.spec
-    counts-ok-requires
+    (λ c κs. search needs)
     returns
-    length-ok-requires
+    (λ c κs. search needs)
     returns-2
     words-ok-requires
     returns-3
-    whole-requires
-    enum-known-t
-    enum-told
+    (λ c κs. short c)
+    (λ c. search needs)
     returns-4
+    (λ c κs. short (c .before .before))
     returns-5
     returns-6)

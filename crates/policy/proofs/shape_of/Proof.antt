@@ -1,50 +1,60 @@
--- The scan's masks and the right sides, where the words are one term of a policy's length.
-use mathlib.Core.Path.{_≡_, refl, sym, _∙_}
-use mathlib.Core.Bool.{true, false}
+-- What is judged of the words, their kinds and the right sides, where they are one term of a policy's length.
+use mathlib.Core.Path.{_≡_, refl, sym, _∙_, ap}
+use mathlib.Core.Bool.{true, false, true≢false}
 use mathlib.Core.List.{List}
-use mathlib.Core.Option.{Option}
+use mathlib.Core.Option.{Option, some, none}
 use Prim.Native.Nat.{ℕ, _≤_}
+use native.Mathlib.Omega.{arith}
 use lib.ListN.{length}
 use borrow.Author.Needs.{needs}
 use borrow.Author.Tests.{not-true, not-false}
-use Rattle.soda.specs.Terms.{Term}
+use Rattle.soda.specs.Terms.{either, both, together, apart, Term, unit, size, marks}
 use Rattle.policy.specs.Words.{decode}
 use Rattle.policy.specs.Reading.{lengthOk}
 use Rattle.policy.specs.Shapes.{blankShape, shapeIn, shapeOf}
-use Rattle.policy.specs.Scans.{scanned, RightsOf}
-use Rattle.policy.specs.declared.Facts.{Facts}
-use Rattle.policy.specs.declared.Found.the-variants.{Whole}
+use Rattle.policy.specs.Scans.{judgedIn, kindsOf, withoutOf, RightsOf}
+use Rattle.policy.specs.declared.Judged.{Judged}
+use Rattle.policy.specs.declared.Kinds.{Kinds}
 use Rattle.policy.specs.declared.Shape.{Shape}
-use Rattle.policy.proofs.Scanning.{length-most, by-term, missing}
+use Rattle.policy.proofs.Grammar.{length-begins, begins-whole}
+use Rattle.policy.proofs.Scanning.{length-most}
+use Rattle.policy.proofs.Kinded.{plus-is, op-is}
 use Rattle.policy.proofs.shape_of.Statement.{statement}
 use Rattle.policy.proofs.shape_of.Tie as tie
 
-abbrev shaped : Facts → List ℕ → Shape
-shaped t right = record {
-  words = t .words;
+abbrev shaped : ℕ → Judged → Kinds → List ℕ → Shape
+shaped n t m right = record {
+  words = n;
   units = t .units;
-  plus = t .plus;
-  either = t .either;
-  both = t .both;
-  together = t .together;
-  apart = t .apart;
+  plus = m .plus;
+  either = withoutOf (m .either) (t .units);
+  both = withoutOf (m .both) (t .units);
+  together = withoutOf (m .together) (t .units);
+  apart = withoutOf (m .apart) (t .units);
   right = right;
 }
 
-is-shape : (ws right : List ℕ) (t : Facts) → RightsOf ws right → scanned 0 0 (decode ws) ≡ Whole t → t .formed ≡ true
-    → shaped t right ≡ shapeIn (decode ws)
-is-shape ws right t r e =
-    by-term 0 0 (λ (x : Option Term) (t : Facts). decode ws ≡ x → t .formed ≡ true → shaped t right ≡ shapeIn x)
-    (λ φ d f. rw (r φ d, f)) (decode ws) t e refl
+is-shape : (ws right : List ℕ) → RightsOf ws right → (x : Option Term) → decode ws ≡ x → judgedIn 0 0 x .formed ≡ true
+    → shaped (length ws) (judgedIn 0 0 x) (kindsOf ws) right ≡ shapeIn x
+is-shape ws right r none d f = absurd (true≢false (sym f))
+is-shape ws right r (some φ) d f =
+    rw f λ i. record {
+      words = words i;
+      units = marks unit φ;
+      plus = plus-is ws φ d i;
+      either = op-is ws φ d either i;
+      both = op-is ws φ d both i;
+      together = op-is ws φ d together i;
+      apart = op-is ws φ d apart i;
+      right = r φ d i;
+    }
+  where
+    words : length ws ≡ size φ
+    words = omega (arith, length-begins (begins-whole ws φ d))
 
-no-shape-of : (ws : List ℕ) (t : Facts) → scanned 0 0 (decode ws) ≡ Whole t → t .formed ≡ false → blankShape ≡ shapeIn (decode ws)
-no-shape-of ws t e = by-term 0 0 (λ x t. t .formed ≡ false → blankShape ≡ shapeIn x) (λ φ f. rw f) (decode ws) t e
-
-length-ok-requires : tie.Need-length-ok-requires
-length-ok-requires c κs = search needs
-
-no-shape-requires : tie.Need-no-shape-requires
-no-shape-requires c κs = search needs
+no-shape-of : (x : Option Term) → judgedIn 0 0 x .formed ≡ false → blankShape ≡ shapeIn x
+no-shape-of none f = refl
+no-shape-of (some φ) f = rw f
 
 returns : tie.Need-returns
 unfolding shapeOf
@@ -57,68 +67,47 @@ long c = sym (c .before .length-ok .ensures) ∙ not-false (c .before .length-ok
 short : (c : tie.Else1) → length (c .before .before .before .args .words .now) ≤ 31
 short c = length-most (length (c .before .before .before .args .words .now)) (long c)
 
-whole-requires : tie.Need-whole-requires
-whole-requires c κs = short c
-
-enum-known-t : tie.Need-enum-known-t
-enum-known-t c = search needs
-
-enum-told : tie.Need-enum-told
-enum-told c = search needs
-
-no-shape-requires-2 : tie.Need-no-shape-requires-2
-no-shape-requires-2 c κs = search needs
-
 returns-2 : tie.Need-returns-2
 unfolding shapeOf
 returns-2 c =
-    let e = c .before .before .before in
-    rw (
-      c .no-shape2 .ensures,
-      long (e .before),
-      missing 0 0 (decode (e .before .before .before .before .args .words .now)) (sym (e .whole .ensures) ∙ c .before .enum-told .given .1),
-    )
-
--- the term found
-term : (c : tie.After-known-told) → scanned 0 0 (decode (c .before .before .before .before .before .before .before .args .words .now)) ≡ Whole (c .before .t .given .0 .0)
-term c = sym (c .before .before .before .whole .ensures) ∙ c .before .t .given .1
-
-no-shape-requires-3 : tie.Need-no-shape-requires-3
-no-shape-requires-3 c κs = search needs
+    let j = c .before .before .before in
+    rw (c .no-shape2 .ensures, long (j .before))
+    (no-shape-of (decode (j .before .before .before .before .args .words .now))
+    (ap (λ (t : Judged). t .formed) (sym (j .judge .ensures)) ∙ not-true (j .judge .result .formed) (c .before .if2 .taken)))
 
 returns-3 : tie.Need-returns-3
 unfolding shapeOf
 returns-3 c =
-    let e = c .before .before .before in
-    let t = e .before .t .given .0 .0 in
-    let ws = e .before .before .before .before .before .before .before .args .words .now in
-    rw (c .no-shape3 .ensures, long (e .before .before .before .before)) (no-shape-of ws t (term e) (not-true (t .formed) (c .before .if2 .taken)))
-
-rights-requires : tie.Need-rights-requires
-rights-requires c κs = short (c .before .before .before .before .before .before)
-
-returns-4 : tie.Need-returns-4
-unfolding shapeOf
-returns-4 c =
-    let e = c .before .before .before in
-    let t = e .before .t .given .0 .0 in
-    let ws = e .before .before .before .before .before .before .before .args .words .now in
-    rw (long (e .before .before .before .before))
-    (is-shape ws (c .rights .result) t (c .rights .ensures) (term e) (not-false (t .formed) (c .before .if2 .left)))
+    let r = c .before .before .before .before in
+    let m = r .before in
+    let j = m .before .before .before in
+    let ws = j .before .before .before .before .args .words .now in
+    rw (
+      c .without4 .ensures,
+      c .before .without3 .ensures,
+      c .before .before .without2 .ensures,
+      c .before .before .before .without .ensures,
+      long (j .before),
+    )
+    ((λ i. shaped (length ws) (j .judge .ensures i) (m .kind-masks .ensures i) (r .rights .result))
+    ∙ is-shape ws (r .rights .result) (r .rights .ensures) (decode ws) refl
+    (ap (λ (t : Judged). t .formed) (sym (j .judge .ensures)) ∙ not-false (j .judge .result .formed) (m .before .if2 .left)))
 
 pub shape-of-spec : {M : Type 1} → statement M
 shape-of-spec =
     tie.close
     (tie.spec
-    length-ok-requires
-    no-shape-requires
+    (λ c κs. search needs)
+    (λ c κs. search needs)
     returns
-    whole-requires
-    enum-known-t
-    enum-told
-    no-shape-requires-2
+    (λ c κs. short c)
+    (λ c κs. search needs)
     returns-2
-    no-shape-requires-3
-    returns-3
-    rights-requires
-    returns-4)
+    (λ c κs. short (c .before .before .before))
+    (λ c κs. short (c .before .before .before .before))
+    (λ c. omega (arith, short (c .before .before .before .before .before)))
+    (λ c κs. search needs)
+    (λ c κs. search needs)
+    (λ c κs. search needs)
+    (λ c κs. search needs)
+    returns-3)

@@ -5,7 +5,7 @@ use borrow.Author.Count.{falls}
 use borrow.Author.Needs.{needs}
 use Rattle.workspace.specs.Steps.{tables, Long}
 use Rattle.workspace.proofs.Digits.{one-shl}
-use Rattle.workspace.proofs.Entries.{Adding, add-begin, add-next, add-below, add-turn, add-end, long-same}
+use Rattle.workspace.proofs.Entries.{Adding, add-begin, add-next, add-room, add-below, add-turn, add-end, long-same}
 use Rattle.workspace.proofs.add.Statement.{statement}
 use Rattle.workspace.proofs.add.Tie as tie
 
@@ -25,8 +25,8 @@ loop-holds c =
 below : (c : tie.In-loop Inv-loop μ-loop) → 1 * 2 ^ c .before .before .before .before .before .before .before .before .before .args .j % 2 ^ 64 + c .before .loop .t < 4096
 below c = add-below _ _ _ _ _ _ _ _ _ (c .before .loop .inv) (c .loop-test .taken) (c .before .before .before .before .before .before .before .before .before .pre .0)
 
-long : (c : tie.In-loop Inv-loop μ-loop) → let at = c .before .loop in Long (tables (at .left) (at .right) (at .users) (at .met) (at .workspace))
-long c = long-same (c .before .before .before .before .before .before .before .before .before .pre .3) (c .before .loop .inv .lengths)
+long : (c : tie.In-loop Inv-loop μ-loop) → let at = c .before .loop in Long (1 * 2 ^ c .before .before .before .before .before .before .before .before .before .args .j % 2 ^ 64 + at .t + 1) (tables (at .left) (at .right) (at .users) (at .met) (at .workspace))
+long c = long-same (add-room _ _ _ _ _ _ _ _ _ (c .before .loop .inv) (c .loop-test .taken)) (c .before .before .before .before .before .before .before .before .before .pre .3) (c .before .loop .inv .lengths)
 
 enter-requires : tie.Need-enter-requires Inv-loop μ-loop
 enter-requires c κs =

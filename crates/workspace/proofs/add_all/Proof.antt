@@ -3,6 +3,7 @@ use mathlib.Core.Path.{_≡_}
 use Prim.Native.Nat.{_-_, _<_}
 use native.Mathlib.Omega.{arith}
 use lib.ListN.{length}
+use lib.Pow.{pow-mono}
 use borrow.Author.Count.{falls}
 use borrow.Author.Needs.{needs}
 use Rattle.workspace.specs.Steps.{tables}
@@ -26,7 +27,7 @@ add-requires c κs =
     let at = c .before .before .before .before .before .before .before .loop in
     let h = c .before .before .before .before .before .before .loop-test .taken in
     let j : at .j < 12 = omega arith in
-    (j, taken-user (a .t3) (a .taken) (at .j) (start .pre .1) h (omega arith), start .pre .2, long-same (start .pre .3) (at .inv .lengths))
+    (j, taken-user (a .t3) (a .taken) (at .j) (start .pre .1) h (omega arith), start .pre .2, long-same (pow-mono {j = a .taken} (omega arith)) (start .pre .3) (at .inv .lengths))
 
 loop-again : tie.Need-loop-again Inv-loop μ-loop
 loop-again c =

@@ -8,6 +8,12 @@ use Rattle.workspace.proofs.Entries.{entered}
 use Rattle.workspace.proofs.enter.Statement.{statement}
 use Rattle.workspace.proofs.enter.Tie as tie
 
+row-of-requires : tie.Need-row-of-requires
+row-of-requires c κs =
+    let pre = c .before .before .before .before .before .before .before .before .before .pre in
+    let long = pre .3 in
+    (pre .0, omega (arith, long .left), omega (arith, long .right), omega (arith, long .users), pre .1, pre .2)
+
 returns : tie.Need-returns
 returns c =
     let start = c .before .before .before .before .before .before .before .before .before .before .before .before .before in
@@ -23,7 +29,7 @@ pub enter-spec : {M : Type 1} → statement M
 enter-spec =
     tie.close
     (tie.spec
-    (λ c κs. search needs)
+    row-of-requires
     (λ c. search needs)
     (λ c. search needs)
     (λ c. search needs)

@@ -22,7 +22,7 @@ joints-requires : tie.Need-joints-requires
 joints-requires c κs =
     let start = c .before .before .before .before .before in
     let p = start .pre in
-    (p .0, p .1, p .2, p .3, p .5 (some-ones (start .args .s) (c .if1 .left)))
+    (p .1, p .2, p .3, p .5 (some-ones (start .args .s) (c .if1 .left)))
 
 returns-2 : tie.Need-returns-2
 returns-2 c φ l u h k n =

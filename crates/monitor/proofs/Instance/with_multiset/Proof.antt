@@ -1,5 +1,6 @@
 -- The loop keeps what the actions of the users that are left will give.
 use mathlib.Core.Path.{_≡_, refl, sym, ap, _∙_}
+use mathlib.Core.Logic.{⊎-elim}
 use mathlib.Core.List.{List, _∷_, map}
 use Prim.Native.Nat.{ℕ, _+_, _-_, _≤_, _<_}
 use native.Mathlib.Numerals.{add-one}
@@ -26,14 +27,14 @@ abbrev μ-loop : tie.MeasureT-loop
 loop-holds : tie.Need-loop-holds Inv-loop μ-loop
 loop-holds c = (omega arith, omega arith, refl)
 
+array-read-n : tie.Need-array-read-n Inv-loop μ-loop
+array-read-n c = search needs
+
 cast-noted : tie.Need-cast-noted Inv-loop μ-loop
 cast-noted c = search needs
 
 noted-requires : tie.Need-noted-requires Inv-loop μ-loop
 noted-requires c κs = search needs
-
-array-read-with-actions : tie.Need-array-read-with-actions Inv-loop μ-loop
-array-read-with-actions c = search needs
 
 -- the counts from a user on: the user's own, then the others'
 module _ (l : tie.In-loop Inv-loop μ-loop) where
@@ -48,7 +49,7 @@ module _ (l : tie.In-loop Inv-loop μ-loop) where
   room = rw counts-next at (l .before .loop .inv .1)
 
 with-actions-requires : tie.Need-with-actions-requires Inv-loop μ-loop
-with-actions-requires c κs = omega (arith, room (c .before))
+with-actions-requires c κs = omega (arith, room (c .before .before))
 
 add-user : tie.Need-add-user Inv-loop μ-loop
 add-user c = search needs
@@ -56,20 +57,34 @@ add-user c = search needs
 loop-less : tie.Need-loop-less Inv-loop μ-loop
 loop-less c = omega arith
 
+-- the user's own actions
+module _ (c : tie.Joined1 Inv-loop μ-loop) where
+  abbrev at : tie.At-loop Inv-loop μ-loop
+  at = c .before .before
+
+  abbrev user : ℕ
+  user = at .loop .user
+
+  abbrev count : ℕ
+  count = getD (at .before .args .t2) user 0
+
+  abbrev own : List Action
+  own = replicate count (notedFor (at .before .args .self) user)
+
+  added : c .if1 .next ≡ adding (at .loop .next) own
+  added = ⊎-elim
+      (λ w. w .3 ∙ w .2 .ensures ∙ ap (λ (a : Action). adding (at .loop .next) (replicate count a)) (w .1 .ensures))
+      (λ w. w .1 ∙ rw (w .0 .left))
+      (c .if1 .came)
+
 loop-again : tie.Need-loop-again Inv-loop μ-loop
 loop-again c =
-    let n = c .before in
-    let at = n .before .before in
-    let i = at .before .args .self in
-    let counts = at .before .args .t2 in
-    let k : ℕ = getD counts (at .loop .user) 0 in
-    let rest : List ℕ = drop (at .loop .user + 1) counts in
-    let own : List Action = replicate k (notedFor i (at .loop .user)) in
-    let is : c .with-actions .result ≡ adding (at .loop .next) own = c .with-actions .ensures ∙ ap (λ (a : Action). adding (at .loop .next) (replicate k a)) (n .noted .ensures) in (
+    let i = at c .before .args .self in
+    let rest : List ℕ = drop (user c + 1) (at c .before .args .t2) in (
       omega arith,
-      rw is (omega (arith, room (n .before), adding-number (at .loop .next) own, length-replicate {A = Action} k (notedFor i (at .loop .user)))),
-      rw is (ap (λ (v : ℕ). adding (adding (at .loop .next) own) (map (notedFor i) (listed v rest))) (add-one (at .loop .user))
-          ∙ sym (adding-listed (at .loop .next) i (at .loop .user) k rest) ∙ (rw (counts-next (n .before)) at (at .loop .inv .2))),
+      rw (added c) (omega (arith, room (c .before), adding-number (at c .loop .next) (own c), length-replicate {A = Action} (count c) (notedFor i (user c)))),
+      rw (added c) (ap (λ (v : ℕ). adding (adding (at c .loop .next) (own c)) (map (notedFor i) (listed v rest))) (add-one (user c))
+          ∙ sym (adding-listed (at c .loop .next) i (user c) (count c) rest) ∙ (rw (counts-next (c .before)) at (at c .loop .inv .2))),
     )
 
 returns : tie.Need-returns Inv-loop μ-loop
@@ -86,9 +101,9 @@ with-multiset-spec =
     Inv-loop
     μ-loop
     loop-holds
+    array-read-n
     cast-noted
     noted-requires
-    array-read-with-actions
     with-actions-requires
     add-user
     loop-less
