@@ -9,7 +9,7 @@ use borrow.Author.Tests.{lt-ltb}
 use lib.Dec.{ltb}
 use lib.ListN.{length, getD, take, drop, replicate, length-append, length-map, length-replicate, length-drop, getD-replicate, List·getD-append}
 use lib.Pow.{pow-pos, pow-mono}
-use lib.Seq.{getD-append-add, getD-drop, ext-getD, length-take-le, take-at}
+use lib.Seq.{getD-append-add, getD-drop, getD-take, ext-getD, length-take-le, take-at}
 use Rattle.soda.specs.Bits.{bit, number}
 use Rattle.soda.specs.Lists.{all}
 use Rattle.soda.specs.Terms.{Term, size}
@@ -19,12 +19,13 @@ use Rattle.soda.proofs.Bits.{bit-of-zero}
 use Rattle.policy.specs.Shapes.{rightSides}
 use Rattle.policy.specs.declared.Shape.{Shape}
 use Rattle.workspace.specs.Workspace.{range, judged, rowOf, column, tableOf, filled}
-use Rattle.workspace.specs.Steps.{Masked, Ascending, Suited, Tables, Known, Cleared, Entered, AddedAll, RowsStand, Shaped}
+use Rattle.workspace.specs.Steps.{Masked, Ascending, Listing, Operators, Coded, Suited, Tables, Known, Cleared, Entered, AddedAll, RowsStand, Shaped}
 use Rattle.workspace.specs.declared.Action.{Action}
 use Rattle.workspace.specs.declared.Masks.{Masks}
 use Rattle.workspace.proofs.Digits.{lt-or-le, bit-ones}
 use Rattle.workspace.proofs.Select.{select-none, select-take}
-use Rattle.workspace.proofs.Standing.{rights-length, stood, right-behind}
+use Rattle.workspace.proofs.Standing.{rights-length, ascending}
+use Rattle.workspace.proofs.Complete.{listing-same}
 use Rattle.workspace.proofs.Entries.{length-range, map-range, kept-more}
 
 -- ── what a shape gives ──
@@ -41,31 +42,37 @@ module _ {p : Shape} (w : Shaped p) where
   words-below =
       omega (arith, words-size, ap (λ q. length (q .right)) (w .is), rights-length 0 (w .term), length-append (rightSides 0 (w .term)) (replicate (31 - length (rightSides 0 (w .term))) 0))
 
-  pub ascending : Ascending (take (p .words) (p .right))
-  ascending = subst Ascending (sym placed) (record { short = omega (arith, n, w .short); behind = λ i h. at i h .0; inside = λ i h. at i h .1 })
-    where
-      n : length (rightSides 0 (w .term)) ≡ size (w .term)
-      n = rights-length 0 (w .term)
+  pub ascends : Ascending (take (p .words) (p .right))
+  ascends = subst Ascending (sym placed) (ascending (w .term) (w .formed) (w .short))
 
-      at : (i : ℕ) → i < length (rightSides 0 (w .term)) → (i < getD (rightSides 0 (w .term)) i 0) × (getD (rightSides 0 (w .term)) i 0 < 32)
-      at i h =
-          let st = stood (w .term) (w .formed) i (omega (arith, n)) in
-          let b = right-behind _ st in
-          (b .0, omega (arith, b .1, st .stands .inside, w .short))
+  pub suited : (m : Masks) → Masked p m → (ops : List ℕ) (n : ℕ) → n ≤ length ops → Operators (m .either) (m .both) (take (p .words) (p .right)) ops n
+      → Suited (w .term) m (take n ops)
+  suited m h ops n b o = record {
+    formed = w .formed;
+    short = w .short;
+    masked = subst (λ q. Masked q m) (w .is) h;
+    listed =
+        let n-is = length-take-le n ops b in
+        subst (λ k. Listing (m .either) (m .both) (rightSides 0 (w .term)) (take n ops) k (size (w .term))) (sym n-is)
+        (listing-same ops (take n ops) n (size (w .term)) (λ j h. getD-take n ops j 0 h)
+        (subst (λ l. Listing (m .either) (m .both) l ops n (size (w .term))) placed
+        (subst (Listing (m .either) (m .both) (take (p .words) (p .right)) ops n) (ap length placed ∙ rights-length 0 (w .term)) (o .listing))));
+  }
 
-  pub suited : (m : Masks) → Masked p m → Suited (w .term) m (take (p .words) (p .right))
-  suited m h = record { formed = w .formed; short = w .short; masked = subst (λ q. Masked q m) (w .is) h; placed = placed }
+pub coded-take : {either both : ℕ} {places : List ℕ} (ops : List ℕ) (n : ℕ) → n ≤ length ops → Operators either both places ops n → Coded (take n ops)
+coded-take ops n b o j h =
+    let k : j < n = omega (arith, h, length-take-le n ops b) in subst (λ x. x < 1024) (sym (getD-take n ops j 0 k)) (o .coded j k)
 
 -- ── the empty set ──
-known-first : {m : Masks} {places : List ℕ} {t t′ : Tables} → Entered m places 0 0 4294967295 t t′ → (φ : Term) (l : List Action) → Suited φ m places → Known φ l t′ 1
+known-first : {m : Masks} {ops : List ℕ} {t t′ : Tables} → Entered m ops 0 0 4294967295 t t′ → (φ : Term) (l : List Action) → Suited φ m ops → Known φ l t′ 1
 known-first e φ l u = e .known φ l u (pow-pos (length l))
     (λ v. bit-of-zero v ∙ sym (ap (λ k. acts (λ (a : Action). a .user) v k) (select-none l)))
     (λ i h. bit-ones 32 i ∙ lt-ltb i 32 h ∙ sym (ap (all (λ (a : Action). bit i (a .met))) (select-none l)))
     (λ x h. absurd (omega arith))
 
 -- the empty set, then all others
-pub rows-stand : {m : Masks} {places : List ℕ} {l : List Action} {t first t′ : Tables} (n : ℕ) → Entered m places 0 0 4294967295 t first → AddedAll m places l (2 ^ n) first t′
-    → RowsStand m places l (2 ^ n) (t .workspace) (t′ .workspace)
+pub rows-stand : {m : Masks} {ops : List ℕ} {l : List Action} {t first t′ : Tables} (n : ℕ) → Entered m ops 0 0 4294967295 t first → AddedAll m ops l (2 ^ n) first t′
+    → RowsStand m ops l (2 ^ n) (t .workspace) (t′ .workspace)
 rows-stand {l = l} n e a = record {
   satisfied = λ φ u x b. a .known φ u (known-first e φ l u) x b .satisfied;
   possible = λ φ u x b. a .known φ u (known-first e φ l u) x b .possible;
@@ -178,8 +185,8 @@ whole-is φ l n room after h k b e w = ext-getD 0 after (filled φ L room) (e �
         w .rest i d ∙ subst (λ m. getD room m 0 ≡ getD (filled φ L room) m 0) z (sym (filled-rest φ L cap room (i - 8192)))
 
 -- the rows in a workspace that was cleared
-pub whole : {m : Masks} {places : List ℕ} {l : List Action} (φ : Term) (n : ℕ) (room cleared after : List ℕ) → n ≤ 12 → Cleared 8192 room cleared
-    → RowsStand m places l (2 ^ n) cleared after → Suited φ m places → Whole φ l n room after
+pub whole : {m : Masks} {ops : List ℕ} {l : List Action} (φ : Term) (n : ℕ) (room cleared after : List ℕ) → n ≤ 12 → Cleared 8192 room cleared
+    → RowsStand m ops l (2 ^ n) cleared after → Suited φ m ops → Whole φ l n room after
 whole φ n room cleared after h c r u = record {
   satisfied = r .satisfied φ u;
   possible = r .possible φ u;

@@ -3,16 +3,17 @@ use mathlib.Core.Path.{_≡_, refl, sym, ap, ap₂, _∙_, subst}
 use mathlib.Core.Bool.{Bool, true, false, So, _&&_, _||_, true≢false, and-true, and-false, or-false}
 use mathlib.Core.List.{List}
 use mathlib.Core.Logic.{_⊎_, inl, inr}
-use Prim.Native.Nat.{ℕ, zero, suc, _+_, _-_, _*_, _/_, _^_, _≤_, _<_}
-use native.Mathlib.Nat.{eq-or-lt-of-le, pow-suc}
+use Prim.Native.Nat.{ℕ, suc, _+_, _-_, _*_, _/_, _%_, _^_, _≤_, _<_}
+use native.Mathlib.Nat.{eq-or-lt-of-le}
 use native.Mathlib.Omega.{arith}
 use borrow.Author.Tests.{eq-eqb, ne-eqb}
 use lib.Bits.{bitAnd, bitOr}
-use lib.ListN.{length, getD}
+use lib.ListN.{length, getD, set, length-set}
+use lib.Seq.{getD-set-same, getD-set-other}
 use Rattle.soda.specs.Bits.{bit}
 use Rattle.soda.proofs.Bools.{not-so, or-left, or-right, and-join}
 use Rattle.soda.proofs.Bits.{bit-of-zero}
-use Rattle.workspace.specs.Steps.{place, Ascending, sides, Finished}
+use Rattle.workspace.specs.Steps.{place, Ascending, Listing, no-words, skips, lists, Operators, sides, Finished}
 use Rattle.workspace.proofs.Digits.{bit-and, bit-or, bit-shr, bit-word}
 
 -- one word done: word i by its sides, the right one at k, and nothing else changes
@@ -74,21 +75,6 @@ module _ (either both row right i word : ℕ) (h : i < 31) (is : word ≡ 429496
     }
 
 -- ── the loop ──
--- the digits of one word more to the front
-pub word-down : (n word : ℕ) → 0 < n → word ≡ 4294967297 * 2 ^ n → word / 2 ≡ 4294967297 * 2 ^ (n - 1)
-word-down zero word h e = absurd (omega arith)
-word-down (suc n) word h e = let z : suc n - 1 ≡ n = omega arith in omega (arith, pow-suc 2 n, ap (λ m. 2 ^ m) z)
-
--- the next word to be done
-pub record Spot (places : List ℕ) (i : ℕ) : Type 0 where
-  pub listed : i < length places
-  pub small : i < 31
-  pub behind : i < getD places i 0
-  pub inside : getD places i 0 < 32
-
-pub spot : {places : List ℕ} {n : ℕ} → Ascending places → 0 < n → n ≤ length places → Spot places (n - 1)
-spot a h l = record { listed = omega arith; small = omega (arith, a .short); behind = a .behind _ (omega arith); inside = a .inside _ (omega arith) }
-
 -- the words from i on are done
 pub record Done (base either both : ℕ) (places : List ℕ) (row right i : ℕ) : Type 0 where
   pub bound : i ≤ length places
@@ -153,3 +139,138 @@ module _ (base either both : ℕ) (places : List ℕ) where
           (p .right-here e (d .clear e i (omega arith)) (subst (λ m. So (bit (place true m) either)) (sym q) o) ∙ sym (right-kept e i (omega arith) (omega arith)))
       sided e j k (inr l) o =
           p .right-other e j (omega (arith, asc .short)) (λ q. omega arith) ∙ d .sided e j (omega arith) k o ∙ sym (right-kept e j (omega arith) k)
+
+-- ── the operators ──
+-- the words before `at` are to be done, and the first n operators are those among them
+pub record Walked (base either both : ℕ) (places ops : List ℕ) (row right n : ℕ) : Type 0 where
+  pub at : ℕ
+  pub before : Listing either both places ops n at
+  pub done : Done base either both places row right at
+
+module _ (base either both : ℕ) (places ops : List ℕ) (asc : Ascending places) where
+  one-word : (row right w row′ right′ : ℕ) → Done base either both places row right (suc w) → Placed either both row right w (getD places w 0) row′ right′
+      → Done base either both places row′ right′ w
+  one-word row right w row′ right′ d p =
+      let z : w ≡ suc w - 1 = omega arith in
+      subst (Done base either both places row′ right′) (sym z)
+      (step base either both places row right (suc w) row′ right′ asc (omega arith) d (subst (λ k. Placed either both row right k (getD places k 0) row′ right′) z p))
+
+  -- a word that is no operator
+  pass : (row right w : ℕ) → bitAnd (bitOr either both) (4294967297 * 2 ^ w) ≡ 0 → Done base either both places row right (suc w) → Done base either both places row right w
+  pass row right w z d =
+      one-word row right w row right d (skipped either both row right w (4294967297 * 2 ^ w) (omega (arith, d .bound, asc .short)) refl (getD places w 0) z)
+
+  -- the last of the operators that are left: the words behind it are done
+  record Last (row right n : ℕ) : Type 0 where
+    pub at : ℕ
+    pub before : Listing either both places ops n at
+    pub is : getD ops n 0 ≡ at + 32 * (getD places at 0 - at)
+    pub done : Done base either both places row right (suc at)
+
+  last : (row right n m w : ℕ) → m ≡ suc n → Listing either both places ops m w → Done base either both places row right w → Last row right n
+  last row right n m w e no-words d = absurd (omega arith)
+  last row right n m w e (skips k v l z) d = last row right n k v e l (pass row right v z d)
+  last row right n m w e (lists k v l q) d =
+      let i : k ≡ n = omega arith in
+      record { at = v; before = subst (λ j. Listing either both places ops j v) i l; is = subst (λ j. getD ops j 0 ≡ v + 32 * (getD places v 0 - v)) i q; done = d }
+
+  to-first : (row right m w : ℕ) → m ≡ 0 → Listing either both places ops m w → Done base either both places row right w → Done base either both places row right 0
+  to-first row right m w e no-words d = d
+  to-first row right m w e (skips k v l z) d = to-first row right k v e l (pass row right v z d)
+  to-first row right m w e (lists k v l q) d = absurd (omega arith)
+
+  pub walk-end : (row right n : ℕ) → n ≤ 0 → Walked base either both places ops row right n → Finished base either both places row right
+  walk-end row right n h g = finished base either both places row right 0 (omega arith) (to-first row right n (g .at) (omega arith) (g .before) (g .done))
+
+  pub walk-step : (row right n word d : ℕ) → 0 < n → word ≡ 4294967297 * 2 ^ (getD ops (n - 1) 0 % 32) → d ≡ getD ops (n - 1) 0 / 32
+      → Walked base either both places ops row right n
+      → Walked base either both places ops
+      (bitOr row (bitOr (bitAnd (bitAnd either word) (bitOr (row / 2 ^ 1) (row / 2 ^ d))) (bitAnd (bitAnd both word) (bitAnd (row / 2 ^ 1) (row / 2 ^ d)))))
+      (bitOr right (bitAnd (row / 2 ^ d) word)) (n - 1)
+  walk-step row right n word d h is far g =
+      let m : n ≡ suc (n - 1) = omega arith in
+      let o = last row right (n - 1) n (g .at) m (g .before) (g .done) in
+      let w : ℕ = o .at in
+      let k : ℕ = getD places w 0 in
+      let b : w < length places = omega (arith, o .done .bound) in
+      let behind = asc .behind w b in
+      let inside = asc .inside w b in
+      let here : getD ops (n - 1) 0 % 32 ≡ w = omega (arith, o .is, behind, inside) in
+      let e : k - w ≡ d = omega (arith, o .is, behind, inside, far) in
+      subst
+      (λ x. Walked base either both places ops
+      (bitOr row (bitOr (bitAnd (bitAnd either word) (bitOr (row / 2 ^ 1) (row / 2 ^ x))) (bitAnd (bitAnd both word) (bitAnd (row / 2 ^ 1) (row / 2 ^ x)))))
+      (bitOr right (bitAnd (row / 2 ^ x) word)) (n - 1))
+      e
+      (record {
+        at = w;
+        before = o .before;
+        done = one-word row right w _ _ (o .done) (placed either both row right w word (omega (arith, b, asc .short)) (is ∙ ap (λ j. 4294967297 * 2 ^ j) here) k behind);
+      })
+
+-- lists that agree up to n list the same operators
+pub listing-same : {either both : ℕ} {places : List ℕ} (ops ops′ : List ℕ) (n w : ℕ) → ((j : ℕ) → j < n → getD ops′ j 0 ≡ getD ops j 0)
+    → Listing either both places ops n w → Listing either both places ops′ n w
+listing-same ops ops′ n w f no-words = no-words
+listing-same ops ops′ n w f (skips k v l z) = skips k v (listing-same ops ops′ k v f l) z
+listing-same ops ops′ n w f (lists k v l q) = lists k v (listing-same ops ops′ k v (λ j b. f j (omega arith)) l) (f k (omega arith) ∙ q)
+
+-- ── the listing ──
+-- the operators among the first i words are the first n of `ops`
+pub record Listed (either both : ℕ) (places start ops : List ℕ) (n i : ℕ) : Type 0 where
+  pub few : n ≤ i
+  pub bound : i ≤ length places
+  pub lengths : length ops ≡ length start
+  pub listing : Listing either both places ops n i
+  pub coded : (j : ℕ) → j < n → getD ops j 0 < 1024
+
+module _ {either both : ℕ} {places start : List ℕ} where
+  pub list-begin : Listed either both places start start 0 0
+  list-begin = record { few = omega arith; bound = omega arith; lengths = refl; listing = no-words; coded = λ j h. absurd (omega arith) }
+
+  pub list-skip : {ops : List ℕ} {n i word : ℕ} → i < length places → word ≡ 4294967297 * 2 ^ i → bitAnd (bitOr either both) word ≡ 0
+      → Listed either both places start ops n i → Listed either both places start ops n (i + 1)
+  list-skip {ops} {n} {i} h w z g = let s : suc i ≡ i + 1 = omega arith in record {
+    few = omega (arith, g .few);
+    bound = omega arith;
+    lengths = g .lengths;
+    listing = subst (Listing either both places ops n) s (skips n i (g .listing) (ap (bitAnd (bitOr either both)) (sym w) ∙ z));
+    coded = g .coded;
+  }
+
+  pub list-take : {ops : List ℕ} {n i : ℕ} → Ascending places → 31 ≤ length start → i < length places → Listed either both places start ops n i
+      → Listed either both places start (set ops n (i + 32 * (getD places i 0 - i))) (n + 1) (i + 1)
+  list-take {ops} {n} {i} asc long h g = let s : suc i ≡ i + 1 = omega arith in let m : suc n ≡ n + 1 = omega arith in record {
+    few = omega (arith, g .few);
+    bound = omega arith;
+    lengths = length-set ops n code ∙ g .lengths;
+    listing = subst (λ k. Listing either both places after k (i + 1)) m (subst (Listing either both places after (suc n)) s
+        (lists n i (listing-same ops after n i (λ j b. getD-set-other ops n j code 0 (λ q. omega arith)) (g .listing)) here));
+    coded = λ j b. by j (eq-or-lt-of-le (le j b));
+  }
+    where
+      code : ℕ
+      code = i + 32 * (getD places i 0 - i)
+
+      after : List ℕ
+      after = set ops n code
+
+      here : getD after n 0 ≡ code
+      here = getD-set-same ops n code 0 (omega (arith, g .few, g .lengths, asc .short))
+
+      le : (j : ℕ) → j < n + 1 → j ≤ n
+      le j b = omega arith
+
+      small : code < 1024
+      small = omega (arith, asc .inside i h, asc .short)
+
+      by : (j : ℕ) → (j ≡ n) ⊎ (j < n) → getD after j 0 < 1024
+      by j (inl q) = subst (λ x. x < 1024) (sym (ap (λ k. getD after k 0) q ∙ here)) small
+      by j (inr b) = subst (λ x. x < 1024) (sym (getD-set-other ops n j code 0 (λ q. omega arith))) (g .coded j b)
+
+  pub list-end : {ops : List ℕ} {n i : ℕ} → Ascending places → length places ≤ i → Listed either both places start ops n i → Operators either both places ops n
+  list-end {ops} {n} {i} asc h g = let e : i ≡ length places = omega (arith, g .bound) in record {
+    bound = omega (arith, g .few, g .bound, asc .short);
+    listing = subst (Listing either both places ops n) e (g .listing);
+    coded = g .coded;
+  }

@@ -61,13 +61,13 @@ row-number e φ l s row right w short r c h = bit-ext 32 w (number digits) h fit
 before : {x s : ℕ} → x < s → (l : List ℕ) (v : ℕ) → getD (set l s v) x 0 ≡ getD l x 0
 before {x} {s} h l v = getD-set-other l s x v 0 (λ q. omega arith)
 
-module _ (m : Masks) (places : List ℕ) (s who met : ℕ) (t : Tables) (row right low high : ℕ)
-    (h : s < 4096) (n : Long (s + 1) t) (r : RowOf m places (t .left) (t .right) (t .users) met s row right)
+module _ (m : Masks) (ops : List ℕ) (s who met : ℕ) (t : Tables) (row right low high : ℕ)
+    (h : s < 4096) (n : Long (s + 1) t) (r : RowOf m ops (t .left) (t .right) (t .users) met s row right)
     (is-low : Column false row low) (is-high : Column true row high) (low-fits : low < 2 ^ 32) (high-fits : high < 2 ^ 32) where
   abbrev pub after : Tables
   after = tables (set (t .left) s (row / 2 ^ 1)) (set (t .right) s right) (set (t .users) s who) (set (t .met) s met) (set (set (t .workspace) s low) (4096 + s) high)
 
-  pub entered : Entered m places s who met t after
+  pub entered : Entered m ops s who met t after
   entered = record {
     known = λ φ l u f a k g x b. entry φ l u f a k g x (eq-or-lt-of-le (le x b));
     kept = record {
@@ -79,7 +79,7 @@ module _ (m : Masks) (places : List ℕ) (s who met : ℕ) (t : Tables) (row rig
       le : (x : ℕ) → x < s + 1 → x ≤ s
       le x b = omega arith
 
-      entry : (φ : Term) (l : List Action) → Suited φ m places → s < 2 ^ length l → Acting (select s l) who → Noted (select s l) met → Known φ l t s
+      entry : (φ : Term) (l : List Action) → Suited φ m ops → s < 2 ^ length l → Acting (select s l) who → Noted (select s l) met → Known φ l t s
           → (x : ℕ) → (x ≡ s) ⊎ (x < s) → Entry φ l after x
       entry φ l u f a k g x (inl q) = subst (Entry φ l after) (sym q) (record {
         sides = rw (
@@ -184,15 +184,15 @@ pub same-trans : {t t′ t″ : Tables} → Same t t′ → Same t′ t″ → S
 same-trans p q = record { left = q .left ∙ p .left; right = q .right ∙ p .right; users = q .users ∙ p .users; met = q .met ∙ p .met; workspace = q .workspace ∙ p .workspace }
 
 -- where the loop over the sets t of the actions before place j is
-pub record Adding (m : Masks) (places : List ℕ) (j : ℕ) (a : Action) (before after : Tables) (user top t : ℕ) : Type 0 where
+pub record Adding (m : Masks) (ops : List ℕ) (j : ℕ) (a : Action) (before after : Tables) (user top t : ℕ) : Type 0 where
   pub is-user : user ≡ 2 ^ a .user
   pub is-top : top ≡ 2 ^ j
   pub bound : t ≤ top
   pub lengths : Same before after
-  pub added : Added m places j a (top + t) before after
+  pub added : Added m ops j a (top + t) before after
 
-module _ (m : Masks) (places : List ℕ) (j : ℕ) (a : Action) (T : Tables) (user top : ℕ) where
-  pub add-begin : user ≡ 2 ^ a .user → top ≡ 2 ^ j → Adding m places j a T T user top 0
+module _ (m : Masks) (ops : List ℕ) (j : ℕ) (a : Action) (T : Tables) (user top : ℕ) where
+  pub add-begin : user ≡ 2 ^ a .user → top ≡ 2 ^ j → Adding m ops j a T T user top 0
   add-begin p q = let z : 2 ^ j ≡ top + 0 = omega arith in record {
     is-user = p;
     is-top = q;
@@ -201,7 +201,7 @@ module _ (m : Masks) (places : List ℕ) (j : ℕ) (a : Action) (T : Tables) (us
     added = record { known = λ φ l u h e k. subst (Known φ l T) z k; kept = kept-none (top + 0) (T .workspace) };
   }
 
-  module _ (t : ℕ) (T′ : Tables) (g : Adding m places j a T T′ user top t) (h : t < top) where
+  module _ (t : ℕ) (T′ : Tables) (g : Adding m ops j a T T′ user top t) (h : t < top) where
     pub add-next : Next (top + t) t
     add-next = record { last = j; is = ap (λ n. n + t) (g .is-top); below = subst (λ n. t < n) (g .is-top) h }
 
@@ -212,19 +212,19 @@ module _ (m : Masks) (places : List ℕ) (j : ℕ) (a : Action) (T : Tables) (us
     add-below b = omega (arith, add-room, pow-mono {i = j + 1} {j = 12} (omega arith))
 
     pub add-turn : (T″ : Tables) → Same T′ T″
-        → Entered m places (top + t) (bitOr (getD (T′ .users) t 0) user) (bitAnd (getD (T′ .met) t 0) (a .met)) T′ T″ → Adding m places j a T T″ user top (t + 1)
+        → Entered m ops (top + t) (bitOr (getD (T′ .users) t 0) user) (bitAnd (getD (T′ .met) t 0) (a .met)) T′ T″ → Adding m ops j a T T″ user top (t + 1)
     add-turn T″ s e = let z : top + t + 1 ≡ top + (t + 1) = omega arith in record {
       is-user = g .is-user;
       is-top = g .is-top;
       bound = omega arith;
       lengths = same-trans (g .lengths) s;
-      added = subst (λ n. Added m places j a n T T″) z (record {
+      added = subst (λ n. Added m ops j a n T T″) z (record {
         known = known;
         kept = kept-more (omega arith) (g .added .kept) (e .kept);
       });
     }
       where
-        known : (φ : Term) (l : List Action) → Suited φ m places → j < length l → getD l j (record { user = 0; met = 0 }) ≡ a → Known φ l T (2 ^ j) → Known φ l T″ (top + t + 1)
+        known : (φ : Term) (l : List Action) → Suited φ m ops → j < length l → getD l j (record { user = 0; met = 0 }) ≡ a → Known φ l T (2 ^ j) → Known φ l T″ (top + t + 1)
         known φ l u b d k = e .known φ l u fits acting noted before
           where
             before : Known φ l T′ (top + t)
@@ -248,25 +248,25 @@ module _ (m : Masks) (places : List ℕ) (j : ℕ) (a : Action) (T : Tables) (us
                 ∙ ap₂ _&&_ (before t (omega arith) .noted i c) (sym (and-true (bit i (a .met))))
                 ∙ sym (ap (all (λ x. bit i (x .met))) chosen ∙ all-append (λ (x : Action). bit i (x .met)) (select t l) (a ∷ []))
 
-  pub add-end : (t : ℕ) (T′ : Tables) → Adding m places j a T T′ user top t → top ≤ t → Added m places j a (2 ^ (j + 1)) T T′
+  pub add-end : (t : ℕ) (T′ : Tables) → Adding m ops j a T T′ user top t → top ≤ t → Added m ops j a (2 ^ (j + 1)) T T′
   add-end t T′ g l =
       let s : j + 1 ≡ suc j = omega arith in
       let e : top + t ≡ 2 ^ (j + 1) = omega (arith, g .is-top, g .bound, pow-suc 2 j, ap (λ n. 2 ^ n) s) in
-      subst (λ n. Added m places j a n T T′) e (g .added)
+      subst (λ n. Added m ops j a n T T′) e (g .added)
 
 -- ── all actions ──
 -- where the loop over the actions is
-pub record AddingAll (m : Masks) (places : List ℕ) (l : List Action) (taken : ℕ) (before after : Tables) (j : ℕ) : Type 0 where
+pub record AddingAll (m : Masks) (ops : List ℕ) (l : List Action) (taken : ℕ) (before after : Tables) (j : ℕ) : Type 0 where
   pub bound : j ≤ taken
   pub lengths : Same before after
-  pub added : AddedAll m places l (2 ^ j) before after
+  pub added : AddedAll m ops l (2 ^ j) before after
 
-module _ (m : Masks) (places : List ℕ) (l : List Action) (taken : ℕ) (T : Tables) where
-  pub all-begin : AddingAll m places l taken T T 0
+module _ (m : Masks) (ops : List ℕ) (l : List Action) (taken : ℕ) (T : Tables) where
+  pub all-begin : AddingAll m ops l taken T T 0
   all-begin = record { bound = omega arith; lengths = same-refl T; added = record { known = λ φ u k. k; kept = kept-none 1 (T .workspace) } }
 
-  pub all-turn : (T′ T″ : Tables) (j : ℕ) → AddingAll m places l taken T T′ j → j < taken → j < length l → Same T′ T″
-      → Added m places j (getD l j (record { user = 0; met = 0 })) (2 ^ (j + 1)) T′ T″ → AddingAll m places l taken T T″ (j + 1)
+  pub all-turn : (T′ T″ : Tables) (j : ℕ) → AddingAll m ops l taken T T′ j → j < taken → j < length l → Same T′ T″
+      → Added m ops j (getD l j (record { user = 0; met = 0 })) (2 ^ (j + 1)) T′ T″ → AddingAll m ops l taken T T″ (j + 1)
   all-turn T′ T″ j f h b s a = record {
     bound = omega arith;
     lengths = same-trans (f .lengths) s;
@@ -276,5 +276,5 @@ module _ (m : Masks) (places : List ℕ) (l : List Action) (taken : ℕ) (T : Ta
     };
   }
 
-  pub all-end : (T′ : Tables) (j : ℕ) → AddingAll m places l taken T T′ j → taken ≤ j → AddedAll m places l (2 ^ taken) T T′
-  all-end T′ j f h = let e : j ≡ taken = omega (arith, f .bound) in subst (λ n. AddedAll m places l (2 ^ n) T T′) e (f .added)
+  pub all-end : (T′ : Tables) (j : ℕ) → AddingAll m ops l taken T T′ j → taken ≤ j → AddedAll m ops l (2 ^ taken) T T′
+  all-end T′ j f h = let e : j ≡ taken = omega (arith, f .bound) in subst (λ n. AddedAll m ops l (2 ^ n) T T′) e (f .added)

@@ -101,18 +101,18 @@ agreed together α β u d anyone x y p q = ap (λ b. d || b) q ∙ or-true d
 agreed apart α β u d anyone x y p q = ap₂ _||_ p q ∙ or-false (disjoint (λ a. a .user) x y)
 
 -- all that the steps of a row with at least one action ensure
-pub record Stepped (φ : Term) (l : List Action) (m : Masks) (places left rights users : List ℕ) (s ones met joint base row right : ℕ) : Type 0 where
-  pub suited : Suited φ m places
+pub record Stepped (φ : Term) (l : List Action) (m : Masks) (ops left rights users : List ℕ) (s ones met joint base row right : ℕ) : Type 0 where
+  pub suited : Suited φ m ops
   pub known : (x : ℕ) → x < s → Sides φ (select x l) (getD left x 0) (getD rights x 0) (getD users x 0)
   pub some : ones ≡ 0 → ⊥
   pub count : length (select s l) ≡ ones
   pub noted : (e : Bool) (i : ℕ) → i < 32 → bit (place e i) met ≡ all (metAt i) (select s l)
   pub joined : Joined (jointly m left rights users s) s joint
   pub is-base : (q : ℕ) → bit q base ≡ (based (m .units) (m .plus) met ones q || bit q joint)
-  pub finished : Finished base (m .either) (m .both) places row right
+  pub finished : Finished base (m .either) (m .both) (rightSides 0 φ) row right
 
-module _ {φ : Term} {l : List Action} {m : Masks} {places left rights users : List ℕ} {s ones met joint base row right : ℕ}
-    (F : Stepped φ l m places left rights users s ones met joint base row right) where
+module _ {φ : Term} {l : List Action} {m : Masks} {ops left rights users : List ℕ} {s ones met joint base row right : ℕ}
+    (F : Stepped φ l m ops left rights users s ones met joint base row right) where
   abbrev S : List Action
   S = select s l
 
@@ -152,16 +152,16 @@ module _ {φ : Term} {l : List Action} {m : Masks} {places left rights users : L
         by false = bit-standing (isOp either) (st .stands) ∙ sym (or-false (isOp either ψ))
 
     rule : bit (place e i) row
-        ≡ form e (eqb ones 1) (all (metAt i) S) (all (metAt (1 + i)) S) (bit (place e i) joint) (bit (place e (1 + i)) row) (bit (place e (getD places i 0)) row)
+        ≡ form e (eqb ones 1) (all (metAt i) S) (all (metAt (1 + i)) S) (bit (place e i) joint) (bit (place e (1 + i)) row) (bit (place e (getD (rightSides 0 φ) i 0)) row)
         (unit ψ) (isPlus ψ) (isOp either ψ) (isOp both ψ) (isOp together ψ) (isOp apart ψ)
     rule =
         let n : 1 + place e i ≡ place e (1 + i) = omega arith in
         let next = ap (λ k. bit k met) n ∙ F .noted e (1 + i) (omega (arith, low)) in
-        F .finished .rule e i (omega (arith, below, ap length (F .suited .placed), rights-length 0 φ))
-        ∙ ap (λ b. b || sides e row (m .either) (m .both) i (getD places i 0)) (F .is-base (place e i))
+        F .finished .rule e i (omega (arith, below, rights-length 0 φ))
+        ∙ ap (λ b. b || sides e row (m .either) (m .both) i (getD (rightSides 0 φ) i 0)) (F .is-base (place e i))
         ∙ (λ t. (((eqb ones 1 && (F .noted e i (omega (arith, low)) t && mark unit (m .units) (F .suited .masked .units) t)) || (next t && mark isPlus (m .plus) (F .suited .masked .plus) t)) || bit (place e i) joint)
-        || ((either-mark t && (bit (place e (1 + i)) row || bit (place e (getD places i 0)) row))
-        || (mark (isOp both) (m .both) (F .suited .masked .both) t && (bit (place e (1 + i)) row && bit (place e (getD places i 0)) row))))
+        || ((either-mark t && (bit (place e (1 + i)) row || bit (place e (getD (rightSides 0 φ) i 0)) row))
+        || (mark (isOp both) (m .both) (F .suited .masked .both) t && (bit (place e (1 + i)) row && bit (place e (getD (rightSides 0 φ) i 0)) row))))
 
     no-joint : (isOp together ψ || isOp apart ψ) ≡ false → bit (place e i) joint ≡ false
     no-joint n = unmarked (place e i) (joint-mark ∙ n)
@@ -171,18 +171,18 @@ module _ {φ : Term} {l : List Action} {m : Masks} {places left rights users : L
         let f = unit-flags ψ u in
         let j = no-joint (λ t. f .1 together t || f .1 apart t) in
         rule
-        ∙ (λ t. form e (eqb ones 1) (all (metAt i) S) (all (metAt (1 + i)) S) (j t) (bit (place e (1 + i)) row) (bit (place e (getD places i 0)) row)
+        ∙ (λ t. form e (eqb ones 1) (all (metAt i) S) (all (metAt (1 + i)) S) (j t) (bit (place e (1 + i)) row) (bit (place e (getD (rightSides 0 φ) i 0)) row)
         (u t) (f .0 t) (f .1 either t) (f .1 both t) (f .1 together t) (f .1 apart t))
-        ∙ form-unit e (eqb ones 1) (all (metAt i) S) (all (metAt (1 + i)) S) (bit (place e (1 + i)) row) (bit (place e (getD places i 0)) row)
+        ∙ form-unit e (eqb ones 1) (all (metAt i) S) (all (metAt (1 + i)) S) (bit (place e (1 + i)) row) (bit (place e (getD (rightSides 0 φ) i 0)) row)
         ∙ single-is e (metAt i) ones S (F .count) (F .some) ∙ sym (unit-row e ψ i S u)
 
   plus-case : {i : ℕ} {ψ : Term} → Stood φ i (ψ ⁺) → (e : Bool) → bit (place e i) row ≡ judge e (ψ ⁺) i S
   unfolding table
   plus-case {i} st e =
       rule st e
-      ∙ (λ t. form e (eqb ones 1) (all (metAt i) S) (all (metAt (1 + i)) S) (no-joint st e refl t) (bit (place e (1 + i)) row) (bit (place e (getD places i 0)) row)
+      ∙ (λ t. form e (eqb ones 1) (all (metAt i) S) (all (metAt (1 + i)) S) (no-joint st e refl t) (bit (place e (1 + i)) row) (bit (place e (getD (rightSides 0 φ) i 0)) row)
       false true false false false false)
-      ∙ form-plus e (eqb ones 1) (all (metAt i) S) (all (metAt (1 + i)) S) (bit (place e (1 + i)) row) (bit (place e (getD places i 0)) row)
+      ∙ form-plus e (eqb ones 1) (all (metAt i) S) (all (metAt (1 + i)) S) (bit (place e (1 + i)) row) (bit (place e (getD (rightSides 0 φ) i 0)) row)
       ∙ several-is e (metAt (1 + i)) ones S (F .count) (F .some)
 
   -- an operator with what is judged of its sides
@@ -219,9 +219,8 @@ module _ {φ : Term} {l : List Action} {m : Masks} {places left rights users : L
         ≡ form e (eqb ones 1) (all (metAt i) S) (all (metAt (1 + i)) S) k (judge e α (1 + i) S) (judge e β (1 + i + size α) S)
         false false (sameOp either op) (sameOp both op) (sameOp together op) (sameOp apart op)
     bin-rule u k j a b =
-        let right-at = ap (λ p. getD p i 0) (F .suited .placed) ∙ right-side st in
         rule st e
-        ∙ (λ t. form e (eqb ones 1) (all (metAt i) S) (all (metAt (1 + i)) S) (j t) (a t) ((ap (λ n. bit (place e n) row) right-at ∙ b) t)
+        ∙ (λ t. form e (eqb ones 1) (all (metAt i) S) (all (metAt (1 + i)) S) (j t) (a t) ((ap (λ n. bit (place e n) row) (right-side st) ∙ b) t)
         (u t) false (cond (u t) false (sameOp either op)) (cond (u t) false (sameOp both op)) (cond (u t) false (sameOp together op)) (cond (u t) false (sameOp apart op)))
 
   bin-case : (op : Op) {i : ℕ} {α β : Term} (st : Stood φ i (bin op α β)) (e : Bool) → unit (bin op α β) ≡ false
@@ -264,10 +263,8 @@ module _ {φ : Term} {l : List Action} {m : Masks} {places left rights users : L
     past = past;
     sided = λ e i h o.
         let st = stood φ (F .suited .formed) i h in
-        let p = F .suited .placed in
-        F .finished .sided e i (omega (arith, ap length p, rights-length 0 φ))
+        F .finished .sided e i (omega (arith, h, rights-length 0 φ))
         (either-mark st true ∙ or-right (isOp either (termAt φ i)) (isOp together (termAt φ i) || isOp apart (termAt φ i)) o)
-        ∙ ap (λ (k : List ℕ). bit (place e (getD k i 0)) row) p
         ∙ (let k = right-inside (termAt φ i) st o in meaning (termAt φ (getD (rightSides 0 φ) i 0)) (getD (rightSides 0 φ) i 0) (stood φ (F .suited .formed) (getD (rightSides 0 φ) i 0) k) e);
   }
     where
@@ -278,14 +275,14 @@ module _ {φ : Term} {l : List Action} {m : Masks} {places left rights users : L
           let plus = in-both e (marks isPlus φ) (m .plus) i k (masked .plus) ∙ bit-marks-past isPlus φ i h in
           let joints = in-both e (bitOr (marks (isOp together) φ) (marks (isOp apart) φ)) (m .joint) i k (masked .joint)
           ∙ bit-or i (marks (isOp together) φ) (marks (isOp apart) φ) ∙ ap₂ _||_ (bit-marks-past (isOp together) φ i h) (bit-marks-past (isOp apart) φ i h) in
-          F .finished .past e i (omega (arith, ap length (F .suited .placed), rights-length 0 φ)) k ∙ F .is-base (place e i)
+          F .finished .past e i (omega (arith, h, rights-length 0 φ)) k ∙ F .is-base (place e i)
           ∙ (λ t. ((eqb ones 1 && (bit (place e i) met && units t)) || (bit (1 + place e i) met && plus t)) || unmarked (place e i) joints t)
           ∙ simp (and-false, or-false)
 
 -- the row of no action
-pub empty-row : (φ : Term) (m : Masks) (places : List ℕ) → Suited φ m places → RowIs φ [] (m .first) (m .first)
+pub empty-row : (φ : Term) (m : Masks) (ops : List ℕ) → Suited φ m ops → RowIs φ [] (m .first) (m .first)
 unfolding judged
-empty-row φ m places u = record {
+empty-row φ m ops u = record {
   here = λ e i h. at e i h ∙ sym (none e (termAt φ i) i);
   past = λ e i h k. u .masked .first e i k ∙ past e i h;
   sided = λ e i h o. at e i h ∙ sym (none e (termAt φ (getD (rightSides 0 φ) i 0)) (getD (rightSides 0 φ) i 0));

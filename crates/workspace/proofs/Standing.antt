@@ -11,6 +11,7 @@ use Rattle.soda.specs.Terms.{Op, together, apart, Term, everyone, role, set, ¬
 use Rattle.soda.proofs.Bools.{and-split}
 use Rattle.soda.proofs.Terms.{size-pos, subterms-length, Stands, stands-whole, stands-not, stands-plus, stands-left, stands-right}
 use Rattle.policy.specs.Shapes.{isOp, rightSides}
+use Rattle.workspace.specs.Steps.{Ascending}
 use Rattle.workspace.proofs.Digits.{lt-or-le}
 
 pub rights-length : (i : ℕ) (φ : Term) → length (rightSides i φ) ≡ size φ
@@ -127,3 +128,16 @@ module _ {ρ : Term} where
 
 pub stood : (ρ : Term) → So (wellFormed ρ) → (i : ℕ) → i < size ρ → Stood ρ i (termAt ρ i)
 stood ρ w i h = let e : 0 + i ≡ i = omega arith in subst (λ n. Stood ρ n (termAt ρ i)) e (stood-at 0 ρ (stood-whole ρ w) i h)
+
+-- each right side begins behind its word
+pub ascending : (ρ : Term) → So (wellFormed ρ) → size ρ ≤ 31 → Ascending (rightSides 0 ρ)
+ascending ρ w short = record { short = omega (arith, n, short); behind = λ i h. at i h .0; inside = λ i h. at i h .1 }
+  where
+    n : length (rightSides 0 ρ) ≡ size ρ
+    n = rights-length 0 ρ
+
+    at : (i : ℕ) → i < length (rightSides 0 ρ) → (i < getD (rightSides 0 ρ) i 0) × (getD (rightSides 0 ρ) i 0 < 32)
+    at i h =
+        let st = stood ρ w i (omega (arith, n)) in
+        let b = right-behind _ st in
+        (b .0, omega (arith, b .1, st .stands .inside, short))

@@ -2,7 +2,7 @@
 use mathlib.Core.Path.{_≡_}
 use mathlib.Core.Bool.{Bool, true, false, So, _&&_, _||_, cond}
 use mathlib.Core.List.{List}
-use Prim.Native.Nat.{ℕ, _+_, _-_, _^_, _≤_, _<_}
+use Prim.Native.Nat.{ℕ, suc, _+_, _-_, _*_, _^_, _≤_, _<_}
 use lib.Bits.{bitAnd, bitOr}
 use lib.Dec.{eqb}
 use lib.ListN.{length, getD}
@@ -84,6 +84,22 @@ pub record Ascending (places : List ℕ) : Type 0 where
   pub behind : (i : ℕ) → i < length places → i < getD places i 0
   pub inside : (i : ℕ) → i < length places → getD places i 0 < 32
 
+-- the first n of `ops` are the operators among the first w words: each as its place and, times 32, how far behind it its right side begins
+pub data Listing (either both : ℕ) (places ops : List ℕ) : ℕ → ℕ → Type 0 where
+  no-words : Listing either both places ops 0 0
+  skips : (n w : ℕ) → Listing either both places ops n w → bitAnd (bitOr either both) (4294967297 * 2 ^ w) ≡ 0 → Listing either both places ops n (suc w)
+  lists : (n w : ℕ) → Listing either both places ops n w → getD ops n 0 ≡ w + 32 * (getD places w 0 - w) → Listing either both places ops (suc n) (suc w)
+
+-- each is a place and a distance below 32
+abbrev pub Coded : List ℕ → Type 0
+Coded ops = (j : ℕ) → j < length ops → getD ops j 0 < 1024
+
+-- the first n of `ops` are the operators among all words
+pub record Operators (either both : ℕ) (places ops : List ℕ) (n : ℕ) : Type 0 where
+  pub bound : n ≤ 31
+  pub listing : Listing either both places ops n (length places)
+  pub coded : (j : ℕ) → j < n → getD ops j 0 < 1024
+
 -- word i of a column by its sides, which stand at words 1 + i and k
 abbrev pub sides : Bool → ℕ → ℕ → ℕ → ℕ → ℕ → Bool
 sides e row either both i k =
@@ -97,12 +113,12 @@ pub record Finished (base either both : ℕ) (places : List ℕ) (row right : �
   pub sided : (e : Bool) (i : ℕ) → i < length places → So (bit (place true i) either) → bit (place e i) right ≡ bit (place e (getD places i 0)) row
 
 -- ── the tables ──
--- the masks and the places of the right sides are those of the policy φ
-pub record Suited (φ : Term) (m : Masks) (places : List ℕ) : Type 0 where
+-- the masks and the operators are those of the policy φ
+pub record Suited (φ : Term) (m : Masks) (ops : List ℕ) : Type 0 where
   pub formed : So (wellFormed φ)
   pub short : size φ ≤ 31
   pub masked : Masked (termShape φ) m
-  pub placed : places ≡ rightSides 0 φ
+  pub listed : Listing (m .either) (m .both) (rightSides 0 φ) ops (length ops) (size φ)
 
 -- the users of a list of actions, as a mask, and the unit terms that all of them met
 abbrev pub Acting : List Action → ℕ → Type 0
@@ -131,8 +147,8 @@ pub record Sides (φ : Term) (l : List Action) (left right users : ℕ) : Type 0
 
 -- what a row must be, whatever the policy and the actions
 abbrev pub RowOf : Masks → List ℕ → List ℕ → List ℕ → List ℕ → ℕ → ℕ → ℕ → ℕ → Type 0
-RowOf m places left right users met s row row-right =
-    (φ : Term) (l : List Action) → Suited φ m places → s < 2 ^ length l
+RowOf m ops left right users met s row row-right =
+    (φ : Term) (l : List Action) → Suited φ m ops → s < 2 ^ length l
     → ((x : ℕ) → x < s → Sides φ (select x l) (getD left x 0) (getD right x 0) (getD users x 0)) → Noted (select s l) met → RowIs φ (select s l) row row-right
 
 -- the tables: for each set the digits at left and right sides, its users, what all its actions met; and the workspace
@@ -175,24 +191,24 @@ pub record Kept (n : ℕ) (before after : List ℕ) : Type 0 where
   pub high : (k : ℕ) → 4096 + n ≤ k → getD after k 0 ≡ getD before k 0
 
 -- the set s is entered too: its users are `who`, and its actions all met `met`
-pub record Entered (m : Masks) (places : List ℕ) (s who met : ℕ) (t t′ : Tables) : Type 0 where
-  pub known : (φ : Term) (l : List Action) → Suited φ m places → s < 2 ^ length l → Acting (select s l) who → Noted (select s l) met → Known φ l t s → Known φ l t′ (s + 1)
+pub record Entered (m : Masks) (ops : List ℕ) (s who met : ℕ) (t t′ : Tables) : Type 0 where
+  pub known : (φ : Term) (l : List Action) → Suited φ m ops → s < 2 ^ length l → Acting (select s l) who → Noted (select s l) met → Known φ l t s → Known φ l t′ (s + 1)
   pub kept : Kept (s + 1) (t .workspace) (t′ .workspace)
 
 -- the sets below n are entered, for actions of which `a` stands at place j
-pub record Added (m : Masks) (places : List ℕ) (j : ℕ) (a : Action) (n : ℕ) (t t′ : Tables) : Type 0 where
-  pub known : (φ : Term) (l : List Action) → Suited φ m places → j < length l → getD l j (record { user = 0; met = 0 }) ≡ a → Known φ l t (2 ^ j) → Known φ l t′ n
+pub record Added (m : Masks) (ops : List ℕ) (j : ℕ) (a : Action) (n : ℕ) (t t′ : Tables) : Type 0 where
+  pub known : (φ : Term) (l : List Action) → Suited φ m ops → j < length l → getD l j (record { user = 0; met = 0 }) ≡ a → Known φ l t (2 ^ j) → Known φ l t′ n
   pub kept : Kept n (t .workspace) (t′ .workspace)
 
 -- the sets below n are entered, where the empty set was
-pub record AddedAll (m : Masks) (places : List ℕ) (l : List Action) (n : ℕ) (t t′ : Tables) : Type 0 where
-  pub known : (φ : Term) → Suited φ m places → Known φ l t 1 → Known φ l t′ n
+pub record AddedAll (m : Masks) (ops : List ℕ) (l : List Action) (n : ℕ) (t t′ : Tables) : Type 0 where
+  pub known : (φ : Term) → Suited φ m ops → Known φ l t 1 → Known φ l t′ n
   pub kept : Kept n (t .workspace) (t′ .workspace)
 
 -- the workspace has the rows of the sets below n, and keeps its other words
-pub record RowsStand (m : Masks) (places : List ℕ) (l : List Action) (n : ℕ) (before after : List ℕ) : Type 0 where
-  pub satisfied : (φ : Term) → Suited φ m places → (x : ℕ) → x < n → getD after x 0 ≡ rowOf false φ l x
-  pub possible : (φ : Term) → Suited φ m places → (x : ℕ) → x < n → getD after (4096 + x) 0 ≡ rowOf true φ l x
+pub record RowsStand (m : Masks) (ops : List ℕ) (l : List Action) (n : ℕ) (before after : List ℕ) : Type 0 where
+  pub satisfied : (φ : Term) → Suited φ m ops → (x : ℕ) → x < n → getD after x 0 ≡ rowOf false φ l x
+  pub possible : (φ : Term) → Suited φ m ops → (x : ℕ) → x < n → getD after (4096 + x) 0 ≡ rowOf true φ l x
   pub kept : Kept n before after
 
 -- the shape is that of a well-formed term of at most 31 words

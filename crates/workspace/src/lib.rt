@@ -2,6 +2,7 @@
 // A set of actions is a mask over their places. A row packs both columns into one number: bit i says whether the set satisfies
 // the term at word i, bit 32 + i whether it is possible for it.
 ghost use mathlib.Core.Path.{_≡_};
+ghost use mathlib.Core.List.{List};
 ghost use mathlib.Core.Bool.{Bool, true, false, _&&_, _||_, cond};
 ghost use Prim.Native.Nat.{ℕ, _+_, _-_, _*_, _≤_, _<_, _^_};
 ghost use lib.Bits.{bitAnd, bitOr};
@@ -9,7 +10,7 @@ ghost use lib.Dec.{eqb, ltb};
 ghost use lib.ListN.{length, take};
 ghost use Rattle.soda.specs.Bits.{bit};
 ghost use Rattle.soda.specs.Lists.{all};
-ghost use Rattle.workspace.specs.Steps.{Packed, Masked, Parted, Joined, Next, matched, allowed, jointly, based, Ascending, Finished, RowOf, tables, Long, Cleared, Entered, Added, AddedAll, RowsStand, Shaped};
+ghost use Rattle.workspace.specs.Steps.{Packed, Masked, Parted, Joined, Next, matched, allowed, jointly, based, Ascending, Listing, Operators, Coded, Finished, RowOf, tables, Long, Cleared, Entered, Added, AddedAll, RowsStand, Shaped};
 ghost use Rattle.workspace.specs.Workspace.{filled, fillOf};
 use policy::Shape;
 
@@ -168,24 +169,43 @@ fn base_of(units: u64, plus: u64, met: u64, ones: u32) -> u64
     }
 }
 
-// A row completed from the last word to the first by the sides, which stand behind their word.
-fn finish(base: u64, either: u64, both: u64, places: &[u8]) -> Row
-    requires { ⌜ Ascending (now places) ⌝ }
-    ensures { λ r. ⌜ Finished base either both (now (places .entry)) (r .bits) (r .right) ⌝ }
+// The operators among the words, from the first to the last; returns how many. Each is its word's place and, times 32, how far
+// behind it its right side begins. Made once, so that a row visits no other words.
+fn operators(either: u64, both: u64, places: &[u8], ops: &mut [u16]) -> usize
+    requires { ⌜ Ascending (now places) × (31 ≤ length (now ops)) ⌝ }
+    ensures { λ r. ⌜ Operators either both (now (places .entry)) (now (ops .exit)) r ⌝ }
+{
+    let mut n: usize = 0;
+    let mut i: usize = 0;
+    while i < places.len() {
+        let at = i;
+        i = i + 1;
+        let word: u64 = 0x1_0000_0001 << at;
+        if (either | both) & word != 0 {
+            ops[n] = at as u16 + 32 * (places[at] as u16 - at as u16);
+            n = n + 1;
+        }
+    }
+    n
+}
+
+// A row completed from the last operator to the first by the sides, which stand behind their word.
+fn finish(base: u64, either: u64, both: u64, ops: &[u16]) -> Row
+    requires { ⌜ Coded (now ops) ⌝ }
+    ensures { λ r. ⌜ ((places : List ℕ) → Ascending places → Listing either both places (now (ops .entry)) (length (now (ops .entry))) (length places)
+        → Finished base either both places (r .bits) (r .right)) ⌝ }
 {
     let mut bits = base;
     let mut at_right: u64 = 0;
-    let mut i = places.len();
-    let mut word: u64 = 0x1_0000_0001 << i;
-    while 0 < i {
-        i = i - 1;
-        word = word >> 1;
-        if (either | both) & word != 0 {
-            let l = bits >> 1;
-            let r = bits >> (places[i] - i as u8);
-            bits = bits | (((either & word) & (l | r)) | ((both & word) & (l & r)));
-            at_right = at_right | (r & word);
-        }
+    let mut n = ops.len();
+    while 0 < n {
+        n = n - 1;
+        let x = ops[n];
+        let word: u64 = 0x1_0000_0001 << (x & 31);
+        let l = bits >> 1;
+        let r = bits >> (x >> 5);
+        bits = bits | (((either & word) & (l | r)) | ((both & word) & (l & r)));
+        at_right = at_right | (r & word);
     }
     Row {
         bits,
@@ -197,7 +217,7 @@ fn finish(base: u64, either: u64, both: u64, places: &[u8]) -> Row
 // for every term.
 fn row_of(
     m: Masks,
-    places: &[u8],
+    ops: &[u16],
     left: &[u64],
     right: &[u64],
     users: &[u16],
@@ -205,8 +225,8 @@ fn row_of(
     s: usize,
     t: usize,
 ) -> Row
-    requires { ⌜ (s < 4096) × (s < length (now left)) × (s < length (now right)) × (s < length (now users)) × Ascending (now places) × (0 < s → Next s t) ⌝ }
-    ensures { λ r. ⌜ RowOf m (now (places .entry)) (now (left .entry)) (now (right .entry)) (now (users .entry)) met s (r .bits) (r .right) ⌝ }
+    requires { ⌜ (s < 4096) × (s < length (now left)) × (s < length (now right)) × (s < length (now users)) × Coded (now ops) × (0 < s → Next s t) ⌝ }
+    ensures { λ r. ⌜ RowOf m (now (ops .entry)) (now (left .entry)) (now (right .entry)) (now (users .entry)) met s (r .bits) (r .right) ⌝ }
 {
     let ones = u32::count_ones(s as u32);
     if ones == 0 {
@@ -217,13 +237,13 @@ fn row_of(
     }
     let joint = joints(m, left, right, users, s, t);
     let base = base_of(m.units, m.plus, packed(met, met), ones) | joint;
-    finish(base, m.either, m.both, places)
+    finish(base, m.either, m.both, ops)
 }
 
 // Enters the row of the set s into the tables, with its users and the unit terms that all its actions met.
 fn enter(
     m: Masks,
-    places: &[u8],
+    ops: &[u16],
     s: usize,
     t: usize,
     who: u16,
@@ -234,12 +254,12 @@ fn enter(
     met: &mut [u32],
     workspace: &mut [u32],
 )
-    requires { ⌜ (s < 4096) × Ascending (now places) × (0 < s → Next s t) × Long (s + 1) (tables (now left) (now right) (now users) (now met) (now workspace)) ⌝ }
-    ensures { λ _. ⌜ Entered m (now (places .entry)) s who all
+    requires { ⌜ (s < 4096) × Coded (now ops) × (0 < s → Next s t) × Long (s + 1) (tables (now left) (now right) (now users) (now met) (now workspace)) ⌝ }
+    ensures { λ _. ⌜ Entered m (now (ops .entry)) s who all
         (tables (now (left .entry)) (now (right .entry)) (now (users .entry)) (now (met .entry)) (now (workspace .entry)))
         (tables (now (left .exit)) (now (right .exit)) (now (users .exit)) (now (met .exit)) (now (workspace .exit))) ⌝ }
 {
-    let row = row_of(m, places, left, right, users, all, s, t);
+    let row = row_of(m, ops, left, right, users, all, s, t);
     left[s] = row.bits >> 1;
     right[s] = row.right;
     users[s] = who;
@@ -251,7 +271,7 @@ fn enter(
 // Enters the sets whose last action is a, at place j: each is a set of the actions before it with a.
 fn add(
     m: Masks,
-    places: &[u8],
+    ops: &[u16],
     j: usize,
     a: Action,
     left: &mut [u64],
@@ -260,8 +280,8 @@ fn add(
     met: &mut [u32],
     workspace: &mut [u32],
 )
-    requires { ⌜ (j < 12) × (a .user < 16) × Ascending (now places) × Long (2 ^ (j + 1)) (tables (now left) (now right) (now users) (now met) (now workspace)) ⌝ }
-    ensures { λ _. ⌜ Added m (now (places .entry)) j a (2 ^ (j + 1))
+    requires { ⌜ (j < 12) × (a .user < 16) × Coded (now ops) × Long (2 ^ (j + 1)) (tables (now left) (now right) (now users) (now met) (now workspace)) ⌝ }
+    ensures { λ _. ⌜ Added m (now (ops .entry)) j a (2 ^ (j + 1))
         (tables (now (left .entry)) (now (right .entry)) (now (users .entry)) (now (met .entry)) (now (workspace .entry)))
         (tables (now (left .exit)) (now (right .exit)) (now (users .exit)) (now (met .exit)) (now (workspace .exit))) ⌝ }
 {
@@ -273,7 +293,7 @@ fn add(
         let all = met[t] & a.met;
         enter(
             m,
-            places,
+            ops,
             top + t,
             t,
             who,
@@ -291,7 +311,7 @@ fn add(
 // Enters the sets of the first taken actions, action by action.
 fn add_all(
     m: Masks,
-    places: &[u8],
+    ops: &[u16],
     actions: [Action; 12],
     taken: u8,
     left: &mut [u64],
@@ -300,16 +320,16 @@ fn add_all(
     met: &mut [u32],
     workspace: &mut [u32],
 )
-    requires { ⌜ (taken ≤ 12) × (all (λ a. ltb (a .user) 16) (take taken actions) ≡ true) × Ascending (now places)
+    requires { ⌜ (taken ≤ 12) × (all (λ a. ltb (a .user) 16) (take taken actions) ≡ true) × Coded (now ops)
         × Long (2 ^ taken) (tables (now left) (now right) (now users) (now met) (now workspace)) ⌝ }
-    ensures { λ _. ⌜ AddedAll m (now (places .entry)) actions (2 ^ taken)
+    ensures { λ _. ⌜ AddedAll m (now (ops .entry)) actions (2 ^ taken)
         (tables (now (left .entry)) (now (right .entry)) (now (users .entry)) (now (met .entry)) (now (workspace .entry)))
         (tables (now (left .exit)) (now (right .exit)) (now (users .exit)) (now (met .exit)) (now (workspace .exit))) ⌝ }
 {
     let mut j: usize = 0;
     while j < taken as usize {
         let a = actions[j];
-        add(m, places, j, a, left, right, users, met, workspace);
+        add(m, ops, j, a, left, right, users, met, workspace);
         j = j + 1;
     }
 }
@@ -329,7 +349,7 @@ fn clear(workspace: &mut [u32])
 // Enters the empty set, then the sets of the first taken actions.
 fn fill_tables(
     m: Masks,
-    places: &[u8],
+    ops: &[u16],
     actions: [Action; 12],
     taken: u8,
     left: &mut [u64],
@@ -338,13 +358,13 @@ fn fill_tables(
     met: &mut [u32],
     workspace: &mut [u32],
 )
-    requires { ⌜ (taken ≤ 12) × (all (λ a. ltb (a .user) 16) (take taken actions) ≡ true) × Ascending (now places)
+    requires { ⌜ (taken ≤ 12) × (all (λ a. ltb (a .user) 16) (take taken actions) ≡ true) × Coded (now ops)
         × Long (2 ^ taken) (tables (now left) (now right) (now users) (now met) (now workspace)) ⌝ }
-    ensures { λ _. ⌜ RowsStand m (now (places .entry)) actions (2 ^ taken) (now (workspace .entry)) (now (workspace .exit)) ⌝ }
+    ensures { λ _. ⌜ RowsStand m (now (ops .entry)) actions (2 ^ taken) (now (workspace .entry)) (now (workspace .exit)) ⌝ }
 {
     enter(
         m,
-        places,
+        ops,
         0,
         0,
         0,
@@ -355,23 +375,13 @@ fn fill_tables(
         met,
         workspace,
     );
-    add_all(
-        m,
-        places,
-        actions,
-        taken,
-        left,
-        right,
-        users,
-        met,
-        workspace,
-    );
+    add_all(m, ops, actions, taken, left, right, users, met, workspace);
 }
 
 // With a place in each table for the sets of six actions.
-fn fill_few(m: Masks, places: &[u8], actions: [Action; 12], taken: u8, workspace: &mut [u32])
-    requires { ⌜ (taken ≤ 6) × (all (λ a. ltb (a .user) 16) (take taken actions) ≡ true) × Ascending (now places) × (8192 ≤ length (now workspace)) ⌝ }
-    ensures { λ _. ⌜ RowsStand m (now (places .entry)) actions (2 ^ taken) (now (workspace .entry)) (now (workspace .exit)) ⌝ }
+fn fill_few(m: Masks, ops: &[u16], actions: [Action; 12], taken: u8, workspace: &mut [u32])
+    requires { ⌜ (taken ≤ 6) × (all (λ a. ltb (a .user) 16) (take taken actions) ≡ true) × Coded (now ops) × (8192 ≤ length (now workspace)) ⌝ }
+    ensures { λ _. ⌜ RowsStand m (now (ops .entry)) actions (2 ^ taken) (now (workspace .entry)) (now (workspace .exit)) ⌝ }
 {
     let mut left = [0u64; 64];
     let mut right = [0u64; 64];
@@ -379,7 +389,7 @@ fn fill_few(m: Masks, places: &[u8], actions: [Action; 12], taken: u8, workspace
     let mut met = [0u32; 64];
     fill_tables(
         m,
-        places,
+        ops,
         actions,
         taken,
         &mut left,
@@ -391,9 +401,9 @@ fn fill_few(m: Masks, places: &[u8], actions: [Action; 12], taken: u8, workspace
 }
 
 // The same of nine actions.
-fn fill_some(m: Masks, places: &[u8], actions: [Action; 12], taken: u8, workspace: &mut [u32])
-    requires { ⌜ (taken ≤ 9) × (all (λ a. ltb (a .user) 16) (take taken actions) ≡ true) × Ascending (now places) × (8192 ≤ length (now workspace)) ⌝ }
-    ensures { λ _. ⌜ RowsStand m (now (places .entry)) actions (2 ^ taken) (now (workspace .entry)) (now (workspace .exit)) ⌝ }
+fn fill_some(m: Masks, ops: &[u16], actions: [Action; 12], taken: u8, workspace: &mut [u32])
+    requires { ⌜ (taken ≤ 9) × (all (λ a. ltb (a .user) 16) (take taken actions) ≡ true) × Coded (now ops) × (8192 ≤ length (now workspace)) ⌝ }
+    ensures { λ _. ⌜ RowsStand m (now (ops .entry)) actions (2 ^ taken) (now (workspace .entry)) (now (workspace .exit)) ⌝ }
 {
     let mut left = [0u64; 512];
     let mut right = [0u64; 512];
@@ -401,7 +411,7 @@ fn fill_some(m: Masks, places: &[u8], actions: [Action; 12], taken: u8, workspac
     let mut met = [0u32; 512];
     fill_tables(
         m,
-        places,
+        ops,
         actions,
         taken,
         &mut left,
@@ -413,9 +423,9 @@ fn fill_some(m: Masks, places: &[u8], actions: [Action; 12], taken: u8, workspac
 }
 
 // The same of twelve actions.
-fn fill_many(m: Masks, places: &[u8], actions: [Action; 12], taken: u8, workspace: &mut [u32])
-    requires { ⌜ (taken ≤ 12) × (all (λ a. ltb (a .user) 16) (take taken actions) ≡ true) × Ascending (now places) × (8192 ≤ length (now workspace)) ⌝ }
-    ensures { λ _. ⌜ RowsStand m (now (places .entry)) actions (2 ^ taken) (now (workspace .entry)) (now (workspace .exit)) ⌝ }
+fn fill_many(m: Masks, ops: &[u16], actions: [Action; 12], taken: u8, workspace: &mut [u32])
+    requires { ⌜ (taken ≤ 12) × (all (λ a. ltb (a .user) 16) (take taken actions) ≡ true) × Coded (now ops) × (8192 ≤ length (now workspace)) ⌝ }
+    ensures { λ _. ⌜ RowsStand m (now (ops .entry)) actions (2 ^ taken) (now (workspace .entry)) (now (workspace .exit)) ⌝ }
 {
     let mut left = [0u64; 4096];
     let mut right = [0u64; 4096];
@@ -423,7 +433,7 @@ fn fill_many(m: Masks, places: &[u8], actions: [Action; 12], taken: u8, workspac
     let mut met = [0u32; 4096];
     fill_tables(
         m,
-        places,
+        ops,
         actions,
         taken,
         &mut left,
@@ -436,19 +446,19 @@ fn fill_many(m: Masks, places: &[u8], actions: [Action; 12], taken: u8, workspac
 
 // Enters all sets of the first taken actions, with tables not much larger than they need: zeroing tables for twelve actions
 // takes longer than judging few.
-fn fill_sets(m: Masks, places: &[u8], actions: [Action; 12], taken: u8, workspace: &mut [u32])
-    requires { ⌜ (taken ≤ 12) × (all (λ a. ltb (a .user) 16) (take taken actions) ≡ true) × Ascending (now places) × (8192 ≤ length (now workspace)) ⌝ }
-    ensures { λ _. ⌜ RowsStand m (now (places .entry)) actions (2 ^ taken) (now (workspace .entry)) (now (workspace .exit)) ⌝ }
+fn fill_sets(m: Masks, ops: &[u16], actions: [Action; 12], taken: u8, workspace: &mut [u32])
+    requires { ⌜ (taken ≤ 12) × (all (λ a. ltb (a .user) 16) (take taken actions) ≡ true) × Coded (now ops) × (8192 ≤ length (now workspace)) ⌝ }
+    ensures { λ _. ⌜ RowsStand m (now (ops .entry)) actions (2 ^ taken) (now (workspace .entry)) (now (workspace .exit)) ⌝ }
 {
     if taken <= 6 {
-        fill_few(m, places, actions, taken, workspace);
+        fill_few(m, ops, actions, taken, workspace);
         return;
     }
     if taken <= 9 {
-        fill_some(m, places, actions, taken, workspace);
+        fill_some(m, ops, actions, taken, workspace);
         return;
     }
-    fill_many(m, places, actions, taken, workspace);
+    fill_many(m, ops, actions, taken, workspace);
 }
 
 // Fills the workspace for the first taken actions, by the policy's shape.
@@ -460,7 +470,9 @@ fn fill_by(shape: Shape, actions: [Action; 12], taken: u8, workspace: &mut [u32]
     let m = masks_of(shape);
     let sides = shape.right;
     let words = shape.words as usize;
-    fill_sets(m, &sides[..words], actions, taken, workspace);
+    let mut ops = [0u16; 31];
+    let count = operators(m.either, m.both, &sides[..words], &mut ops);
+    fill_sets(m, &ops[..count], actions, taken, workspace);
 }
 
 // Whether the users of the first taken actions are below 16.

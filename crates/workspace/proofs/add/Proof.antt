@@ -10,11 +10,11 @@ use Rattle.workspace.proofs.add.Statement.{statement}
 use Rattle.workspace.proofs.add.Tie as tie
 
 abbrev Inv-loop : tie.InvT-loop
-Inv-loop m places j a left₀ right₀ users₀ met₀ workspace₀ user top t₀ left right users met workspace t =
-    Adding m places j a (tables left₀ right₀ users₀ met₀ workspace₀) (tables left right users met workspace) user top t
+Inv-loop m ops j a left₀ right₀ users₀ met₀ workspace₀ user top t₀ left right users met workspace t =
+    Adding m ops j a (tables left₀ right₀ users₀ met₀ workspace₀) (tables left right users met workspace) user top t
 
 abbrev μ-loop : tie.MeasureT-loop
-μ-loop m places j a left₀ right₀ users₀ met₀ workspace₀ user top t₀ left right users met workspace t = top - t
+μ-loop m ops j a left₀ right₀ users₀ met₀ workspace₀ user top t₀ left right users met workspace t = top - t
 
 loop-holds : tie.Need-loop-holds Inv-loop μ-loop
 loop-holds c =

@@ -13,11 +13,11 @@ use Rattle.workspace.proofs.add_all.Statement.{statement}
 use Rattle.workspace.proofs.add_all.Tie as tie
 
 abbrev Inv-loop : tie.InvT-loop
-Inv-loop m places taken left₀ right₀ users₀ met₀ workspace₀ actions j₀ left right users met workspace j =
-    AddingAll m places actions taken (tables left₀ right₀ users₀ met₀ workspace₀) (tables left right users met workspace) j
+Inv-loop m ops taken left₀ right₀ users₀ met₀ workspace₀ actions j₀ left right users met workspace j =
+    AddingAll m ops actions taken (tables left₀ right₀ users₀ met₀ workspace₀) (tables left right users met workspace) j
 
 abbrev μ-loop : tie.MeasureT-loop
-μ-loop m places taken left₀ right₀ users₀ met₀ workspace₀ actions j₀ left right users met workspace j = taken - j
+μ-loop m ops taken left₀ right₀ users₀ met₀ workspace₀ actions j₀ left right users met workspace j = taken - j
 
 add-requires : tie.Need-add-requires Inv-loop μ-loop
 add-requires c κs =

@@ -21,7 +21,7 @@ returns c =
     let row = c .before .before .before .row-of in
     let low : c .before .column .result < 2 ^ 32 = omega arith in
     let high : c .column2 .result < 2 ^ 32 = omega arith in
-    entered (a .m) (a .places .now) (a .s) (a .who) (a .all) (tables (a .left .now) (a .right .now) (a .users .now) (a .met .now) (a .workspace .now))
+    entered (a .m) (a .ops .now) (a .s) (a .who) (a .all) (tables (a .left .now) (a .right .now) (a .users .now) (a .met .now) (a .workspace .now))
     (row .result .bits) (row .result .right) (c .before .column .result) (c .column2 .result) (start .pre .0) (start .pre .3) (row .ensures)
     (c .before .column .ensures) (c .column2 .ensures) low high
 

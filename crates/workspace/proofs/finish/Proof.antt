@@ -1,54 +1,43 @@
--- The invariant: the words from i on are done, and `word` has the digits of word i.
-use mathlib.Core.Path.{_≡_}
-use Prim.Native.Nat.{_-_, _*_, _/_, _^_}
+-- The invariant: the words behind the first n operators are done, whatever the places that the operators are listed of.
+use mathlib.Core.Path.{_≡_, refl, ap, _∙_}
+use mathlib.Core.List.{List}
+use Prim.Native.Nat.{ℕ, _-_, _*_, _%_, _^_, _≤_, _<_}
+use native.Mathlib.Nat.{le-refl}
 use native.Mathlib.Omega.{arith}
+use lib.Bits.{bitAnd, and-mask}
+use lib.ListN.{length, getD}
 use lib.Pow.{shl-exact}
 use borrow.Author.Needs.{needs}
-use Rattle.workspace.proofs.Complete.{Done, begin, finished, step, placed, skipped, word-down, Spot, spot}
+use Rattle.workspace.specs.Steps.{Ascending, Listing}
+use Rattle.workspace.proofs.Complete.{Walked, begin, walk-step, walk-end}
 use Rattle.workspace.proofs.finish.Statement.{statement}
 use Rattle.workspace.proofs.finish.Tie as tie
 
 abbrev Inv-loop : tie.InvT-loop
-Inv-loop base either both places bits₀ at-right₀ i₀ word₀ bits at-right i word = Done base either both places bits at-right i × (word ≡ 4294967297 * 2 ^ i)
+Inv-loop base either both ops bits₀ at-right₀ n₀ bits at-right n =
+    (n ≤ length ops) × ((places : List ℕ) → Ascending places → Listing either both places ops (length ops) (length places) → Walked base either both places ops bits at-right n)
 
 abbrev μ-loop : tie.MeasureT-loop
-μ-loop base either both places bits₀ at-right₀ i₀ word₀ bits at-right i word = i
+μ-loop base either both ops bits₀ at-right₀ n₀ bits at-right n = n
 
 loop-holds : tie.Need-loop-holds Inv-loop μ-loop
-loop-holds c = (begin _ _ _ _, shl-exact {a = 4294967297} 33 _ 64 (search needs) (omega (arith, c .pre .short)))
+loop-holds c = (le-refl _, λ places a l. record { at = length places; before = l; done = begin _ _ _ _ })
 
--- the word of this turn
-here : (c : tie.In-loop Inv-loop μ-loop) → Spot (c .before .before .args .places .now) (c .before .loop .i - 1)
-here c = spot (c .before .before .pre) (c .loop-test .taken) (c .before .loop .inv .0 .bound)
+-- the operator of this turn
+code : (c : tie.In-loop Inv-loop μ-loop) → getD (c .before .before .args .ops .now) (c .before .loop .n - 1) 0 < 1024
+code c = c .before .before .pre _ (omega (arith, c .loop-test .taken, c .before .loop .inv .0))
 
-sub-r : tie.Need-sub-r Inv-loop μ-loop
-sub-r c = omega (arith, here (c .before .before) .behind)
-
-shr-r : tie.Need-shr-r Inv-loop μ-loop
-shr-r c = omega (arith, here (c .before .before) .inside)
-
-cast-r-2 : tie.Need-cast-r-2 Inv-loop μ-loop
-cast-r-2 c = record { fits = omega (arith, here (c .before .before) .inside) }
+word-is : (x : ℕ) → 4294967297 * 2 ^ bitAnd x 31 % 2 ^ 64 ≡ 4294967297 * 2 ^ (x % 32)
+word-is x = ap (λ i. 4294967297 * 2 ^ i % 2 ^ 64) (and-mask x 5) ∙ shl-exact {a = 4294967297} 33 (x % 32) 64 (search needs) (omega arith)
 
 loop-again : tie.Need-loop-again Inv-loop μ-loop
 loop-again c =
-    let at = c .before .before .before .loop in
-    let start = c .before .before .before .before in
-    let h = c .before .before .loop-test .taken in
-    let w = word-down (at .i) (at .word) h (at .inv .1) in
-    let p = here (c .before .before) in
-    (step _ _ _ _ _ _ _ _ _ (start .pre) h (at .inv .0) (placed (start .args .either) (start .args .both) (at .bits) (at .at-right) (at .i - 1) (at .word / 2) (p .small) w _ (p .behind)), w)
-
-loop-again-2 : tie.Need-loop-again-2 Inv-loop μ-loop
-loop-again-2 c =
     let at = c .before .before .loop in
-    let start = c .before .before .before in
-    let h = c .before .loop-test .taken in
-    let w = word-down (at .i) (at .word) h (at .inv .1) in
-    (step _ _ _ _ _ _ _ _ _ (start .pre) h (at .inv .0) (skipped (start .args .either) (start .args .both) (at .bits) (at .at-right) (at .i - 1) (at .word / 2) (here (c .before) .small) w _ (c .if1 .left)), w)
+    let x : ℕ = getD (c .before .before .before .args .ops .now) (at .n - 1) 0 in
+    (omega (arith, at .inv .0), λ places a l. walk-step _ _ _ places _ a (at .bits) (at .at-right) (at .n) _ _ (c .before .loop-test .taken) (word-is x) refl (at .inv .1 places a l))
 
 returns : tie.Need-returns Inv-loop μ-loop
-returns c = finished _ _ _ _ _ _ _ (c .loop-test .left) (c .before .loop .inv .0)
+returns c places a l = walk-end _ _ _ _ _ a _ _ _ (c .loop-test .left) (c .before .loop .inv .1 places a l)
 
 pub finish-spec : {M : Type 1} → statement M
 finish-spec =
@@ -56,16 +45,14 @@ finish-spec =
     (tie.spec
     Inv-loop
     μ-loop
-    (λ c. search needs)
     loop-holds
     (λ c. search needs)
-    (λ c. here (c .before .before) .listed)
-    (λ c. record { fits = omega (arith, here (c .before .before) .small) })
-    sub-r
-    cast-r-2
-    shr-r
+    (λ c. search needs)
+    (λ c. omega (arith, c .before .loop-test .taken, c .before .before .loop .inv .0))
+    (λ c. record { fits = omega (arith, and-mask (getD (c .before .before .before .args .ops .now) (c .before .before .loop .n - 1) 0) 5) })
+    (λ c. omega (arith, and-mask (getD (c .before .before .before .args .ops .now) (c .before .before .loop .n - 1) 0) 5))
+    (λ c. record { fits = omega (arith, code (c .before)) })
+    (λ c. omega (arith, code (c .before)))
     (λ c. omega arith)
     loop-again
-    (λ c. omega arith)
-    loop-again-2
     returns)

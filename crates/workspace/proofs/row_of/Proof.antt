@@ -5,7 +5,10 @@ use mathlib.Core.List.{[]}
 use borrow.Author.Needs.{needs}
 use Rattle.soda.specs.Bits.{bit}
 use Rattle.workspace.specs.Workspace.{select}
-use Rattle.workspace.specs.Steps.{RowIs}
+use lib.ListN.{length}
+use Rattle.policy.specs.Shapes.{rightSides}
+use Rattle.workspace.specs.Steps.{Listing, RowIs}
+use Rattle.workspace.proofs.Standing.{rights-length, ascending}
 use Rattle.workspace.proofs.Digits.{bit-or}
 use Rattle.workspace.proofs.Select.{select-none, length-select, ones-none, some-ones}
 use Rattle.workspace.proofs.Rows.{in-both, row-is, empty-row}
@@ -16,7 +19,7 @@ returns : tie.Need-returns
 returns c φ l u h k n =
     let a = c .before .before .before .before .before .args in
     subst (λ t. RowIs φ t (a .m .first) (a .m .first)) (sym (ap (λ x. select x l) (ones-none (a .s) (c .if1 .taken)) ∙ select-none l))
-    (empty-row φ (a .m) (a .places .now) u)
+    (empty-row φ (a .m) (a .ops .now) u)
 
 joints-requires : tie.Need-joints-requires
 joints-requires c κs =
@@ -30,7 +33,7 @@ returns-2 c φ l u h k n =
     let met = c .before .before .packed in
     let joint = c .before .before .before .joints in
     let base = c .before .base-of in
-    row-is {φ = φ} {l = l} {m = a .m} {places = a .places .now} {left = a .left .now} {rights = a .right .now} {users = a .users .now} {s = a .s} {met = met .result} {joint = joint .result}
+    row-is {φ = φ} {l = l} {m = a .m} {ops = a .ops .now} {left = a .left .now} {rights = a .right .now} {users = a .users .now} {s = a .s} {met = met .result} {joint = joint .result}
     (record {
       suited = u;
       known = k;
@@ -39,7 +42,8 @@ returns-2 c φ l u h k n =
       noted = λ e i b. in-both e (a .met) (met .result) i b (met .ensures) ∙ n i b;
       joined = joint .ensures;
       is-base = λ q. bit-or q (base .result) (joint .result) ∙ ap (λ b. b || bit q (joint .result)) (base .ensures q);
-      finished = c .finish .ensures;
+      finished = c .finish .ensures (rightSides 0 φ) (ascending φ (u .formed) (u .short))
+          (subst (Listing (a .m .either) (a .m .both) (rightSides 0 φ) (a .ops .now) (length (a .ops .now))) (sym (rights-length 0 φ)) (u .listed));
     })
 
 pub row-of-spec : {M : Type 1} → statement M
