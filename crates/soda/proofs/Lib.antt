@@ -16,6 +16,7 @@ pub mod EqualForms
 pub mod Tables
 pub mod Joins
 pub mod Parts
+pub mod Orders
 pub mod Notes
 pub mod Multisets
 pub mod Traces

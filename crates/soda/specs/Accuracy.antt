@@ -2,7 +2,7 @@
 use mathlib.Core.Path.{_≡_}
 use mathlib.Core.Logic.{_↔_}
 use mathlib.Core.Bool.{Bool, true, false, So, not, _&&_, _||_}
-use mathlib.Core.List.{List, [], _∷_, _++_, map}
+use mathlib.Core.List.{List, [], _∷_, _++_, map, Perm}
 use Prim.Native.Nat.{ℕ, _<_}
 use lib.Dec.{eqb}
 use lib.ListN.{length}
@@ -88,6 +88,12 @@ SomeRole = (ua : UA) (u : ℕ) → So (not (eqb (roles ua u) 0)) ↔ ((r : ℕ) 
 -- 01: "The empty set satisfies nothing", and it is possible for every term: e is what a column says of it. For any kind of action.
 abbrev pub EmptySet : Type 1
 EmptySet = (A : Type 0) (user : A → ℕ) (met : Term → ℕ → A → Bool) (e : Bool) (φ : Term) (i : ℕ) → table user met e φ i [] ≡ e
+
+-- 01 judges sets of actions: of two lists that are reorderings of each other the table says the same, whatever is kept of an action.
+abbrev pub OrderPlaysNoPart : Type 1
+OrderPlaysNoPart =
+    (A : Type 0) (user : A → ℕ) (met : Term → ℕ → A → Bool) (e : Bool) (φ : Term) (i : ℕ) (s t : List A) → Perm s t
+    → table user met e φ i s ≡ table user met e φ i t
 
 -- A part of a possible list of actions is possible, whatever is kept of an action.
 abbrev pub PartIsPossible : Type 1
