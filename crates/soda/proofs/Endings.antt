@@ -13,7 +13,7 @@ use Rattle.soda.proofs.Bools.{never}
 use Rattle.soda.proofs.Processes.{Has, call-out, choice-out, prefix-out, some-out, parallel-out, refuses, done-out, taken-out, added-out, removed-out, all-merge}
 
 -- done is the last symbol, if it occurs
-abbrev proper : List Symbol → Bool
+abbrev pub proper : List Symbol → Bool
 proper [] = true
 proper (event s ∷ l) = proper l
 proper (done ∷ []) = true
@@ -56,10 +56,10 @@ merge-proper (m-left {e = done} x m) h k = never x
 merge-proper (m-right {e = event s} x m) h k = merge-proper m h k
 merge-proper (m-right {e = done} x m) h k = never x
 
-abbrev Ends : (Users → P) → Type 1
+abbrev pub Ends : (Users → P) → Type 1
 Ends p = (U : Users) (l : List Symbol) → Has (p U) l → So (proper l)
 
-compose-proper : (op : Op) (p q : Users → P) → Ends p → Ends q → Ends (compose op p q)
+pub compose-proper : (op : Op) (p q : Users → P) → Ends p → Ends q → Ends (compose op p q)
 compose-proper either p q x y U l h = elim (choice-out h) [ inl k ↦ x U l k | inr k ↦ y U l k ]
 compose-proper both p q x y U l h = let (a, b, j, k, m) = parallel-out h in subst (λ t. So (proper t)) (all-merge m .0) (x U a j)
 compose-proper together p q x y U l h = let (a, b, j, k, m) = parallel-out h in merge-proper m (x U a j) (y U b k)
@@ -68,7 +68,7 @@ compose-proper apart p q x y U l h =
     let (a, b, j, k, m) = parallel-out g in
     merge-proper m (x (c .one) a j) (y (c .two) b k)
 
-process-proper : (φ : Term) (ua : UA) → Ends (process φ ua)
+pub process-proper : (φ : Term) (ua : UA) → Ends (process φ ua)
 unfolding process
 process-proper everyone ua U l h = once-proper everyone U l ua h
 process-proper (role r) ua U l h = once-proper (role r) U l ua h

@@ -22,6 +22,7 @@ pub mod Multisets
 pub mod Traces
 pub mod Processes
 pub mod Endings
+pub mod Readings
 pub mod Accuracy
 -- The papers' examples.
 pub mod Examples

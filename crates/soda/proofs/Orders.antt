@@ -63,14 +63,14 @@ module _ {A : Type 0} (f : A → Bool) where
 -- ── ways to fall into two ──
 module _ {A : Type 0} where
   -- two parts of t, which are l and r reordered
-  record Sides (t l r : List A) : Type 0 where
+  record Reordered (t l r : List A) : Type 0 where
     one : List A
     two : List A
     split : Split t one two
     on-one : List·Permᴰ l one
     on-two : List·Permᴰ r two
 
-  split-order : {s t : List A} → List·Permᴰ s t → (l r : List A) → Split s l r → Sides t l r
+  split-order : {s t : List A} → List·Permᴰ s t → (l r : List A) → Split s l r → Reordered t l r
   split-order List·Permᴰ·nil l r nil = record { one = []; two = []; split = nil; on-one = List·Permᴰ·nil; on-two = List·Permᴰ·nil }
   split-order (List·Permᴰ·cons {b = b} p d) l r (left {l = m} x) = let c = split-order d m r x in
       record { one = b ∷ c .one; two = c .two; split = left (c .split); on-one = List·Permᴰ·cons p (c .on-one); on-two = c .on-two }

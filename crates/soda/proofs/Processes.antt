@@ -12,7 +12,6 @@ use Rattle.soda.specs.Tables.{single, several, acts, join, Execution, me
 use Rattle.soda.specs.Traces.{business, addUA, rmUA, Trace, execution, executed, Si, si-nil, si-both, si-left, si-right}
 use Rattle.soda.specs.Csp.{Process, prefix, choice, some, parallel, call, Merge, m-nil, m-both, m-left, m-right, Accepts, at-stop, at-prefix, by-prefix, by-left, by-right, by-some, by-parallel, by-call}
 use Rattle.soda.specs.Processes.{Symbol, event, done, Users, P, Name, fin, once, repeat, waiting, body, sync, Parts, compose, process, unfinished, finished}
-use Rattle.soda.specs.Accuracy.{Readings}
 use Rattle.soda.proofs.Bools.{never, and-split, and-join, or-split, or-left, or-right, not-so, so-eq, eq-so}
 use Rattle.soda.proofs.Splits.{all-part, all-parts, split-swap}
 use Rattle.soda.proofs.Tables.{Judgement, Halves, together-out, together-in, apart-out, apart-in, who, judge-unit, not-row, judge-plus, judge-bin}
@@ -44,7 +43,7 @@ module _ {Σ N : Type 0} {def : N → Process Σ N} where
 
 -- ── merges ──
 -- the trace of symbols of a column: with done behind it for satisfied
-pub ending : Bool → Trace → List Symbol
+unfoldable pub ending : Bool → Trace → List Symbol
 ending true [] = []
 ending false [] = done ∷ []
 ending e (s ∷ t) = event s ∷ ending e t
@@ -148,7 +147,7 @@ once-in φ U e (addUA u r ∷ t) ua w h = by-call (by-right (by-left (by-prefix 
 once-in φ U e (rmUA u r ∷ t) ua w h = by-call (by-right (by-right (by-prefix refl (once-in φ U e t (revoke ua u r) w h))))
 
 -- what a process says of the actions: the table's column, and that all of them are by members of U
-abbrev Told : Bool → Users → List Execution → Type 0
+abbrev pub Told : Bool → Users → List Execution → Type 0
 Told b U s = So b × So (within U s)
 
 -- a trace of what rules 1 and 2 share, by its first symbol
@@ -248,10 +247,10 @@ parted U l = record {
 -- ── rules 3 to 6 ──
 module _ (e : Bool) (ua : UA) where
   -- a process that has what a judgement says, by members of U
-  abbrev In : (Users → P) → Judgement Execution → Type 1
+  abbrev pub In : (Users → P) → Judgement Execution → Type 1
   In p f = (U : Users) (t : Trace) → So (within U (executed ua t)) → So (f (executed ua t)) → Has (p U) (ending e t)
 
-  abbrev Out : (Users → P) → Judgement Execution → Type 1
+  abbrev pub Out : (Users → P) → Judgement Execution → Type 1
   Out p f = (U : Users) (t : Trace) → Has (p U) (ending e t) → Told (f (executed ua t)) U (executed ua t)
 
   -- the halves of a trace's actions, each by a set of users
@@ -264,7 +263,7 @@ module _ (e : Bool) (ua : UA) where
       (y W (d .two) (subst (λ s. So (within W s)) (sym (d .is-two)) w) (subst (λ s. So (g s)) (sym (d .is-two)) (h .for-two)))
       (si-merge e (d .si))
 
-  compose-in : (op : Op) (p q : Users → P) (f g : Judgement Execution) → In p f → In q g → In (compose op p q) (join who op f g)
+  pub compose-in : (op : Op) (p q : Users → P) (f g : Judgement Execution) → In p f → In q g → In (compose op p q) (join who op f g)
   compose-in either p q f g x y U t w h = elim (or-split (f (executed ua t)) (g (executed ua t)) h) [ inl k ↦ by-left (x U t w k) | inr k ↦ by-right (y U t w k) ]
   compose-in both p q f g x y U t w h = let k = and-split (f (executed ua t)) (g (executed ua t)) h in by-parallel (x U t w (k .0)) (y U t w (k .1)) (merge-all (ending e t))
   compose-in together p q f g x y U t w h =
@@ -292,7 +291,7 @@ module _ (e : Bool) (ua : UA) where
       let (b, w) = y W (d .two) (subst (Has (q W)) (d .is-two) k) in
       record { halves = record { one = executed ua (d .one); two = executed ua (d .two); split = si-split (d .si) ua; for-one = a; for-two = b }; in-one = v; in-two = w }
 
-  compose-out : (op : Op) (p q : Users → P) (f g : Judgement Execution) → Out p f → Out q g → Out (compose op p q) (join who op f g)
+  pub compose-out : (op : Op) (p q : Users → P) (f g : Judgement Execution) → Out p f → Out q g → Out (compose op p q) (join who op f g)
   compose-out either p q f g x y U t h = elim (choice-out h) [
     | inl k ↦ let (a, w) = x U t k in (or-left (f (executed ua t)) (g (executed ua t)) a, w)
     | inr k ↦ let (b, w) = y U t k in (or-right (f (executed ua t)) (g (executed ua t)) b, w)
@@ -350,18 +349,3 @@ module _ (e : Bool) (ua : UA) where
   -- Where all who act are users, the process has the trace exactly when the table says so.
   pub judge-is-process : (φ : Term) (U : Users) (t : Trace) → So (within U (executed ua t)) → So (judge e φ (executed ua t)) ↔ Has (process φ ua U) (ending e t)
   judge-is-process φ U t w = (accepts-in φ U t w, λ h. accepts-out φ U t h .0)
-
-  -- an operator by rule 1, or by rules 3 to 6
-  reading : (op : Op) (φ ψ : Term) (U : Users) (t : Trace) → Has (process (bin op φ ψ) ua U) (ending e t) ↔ Has (compose op (process φ ua) (process ψ ua) U) (ending e t)
-  reading op φ ψ U t = (
-    λ h. let (k, w) = accepts-out (bin op φ ψ) U t h in
-        compose-in op (process φ ua) (process ψ ua) (judge e φ) (judge e ψ) (accepts-in φ) (accepts-in ψ) U t w (sym (judge-bin e op φ ψ (executed ua t)) ∙ k),
-    λ h. let (k, w) = compose-out op (process φ ua) (process ψ ua) (judge e φ) (judge e ψ) (accepts-out φ) (accepts-out ψ) U t h in
-        accepts-in (bin op φ ψ) U t w (judge-bin e op φ ψ (executed ua t) ∙ k),
-  )
-
-pub readings : Readings
-readings op φ ψ ua U t = (
-  subst (λ s. Has (process (bin op φ ψ) ua U) s ↔ Has (compose op (process φ ua) (process ψ ua) U) s) (ending-unfinished t) (reading true ua op φ ψ U t),
-  subst (λ s. Has (process (bin op φ ψ) ua U) s ↔ Has (compose op (process φ ua) (process ψ ua) U) s) (ending-finished t) (reading false ua op φ ψ U t),
-)

@@ -7,13 +7,13 @@ use Prim.Native.Nat.{ℕ, _<_}
 use lib.Dec.{eqb}
 use lib.ListN.{length}
 use Rattle.soda.specs.Lists.{Split}
-use Rattle.soda.specs.Terms.{Op, Term, ¬ᵗ_, bin, unit, wellFormed}
+use Rattle.soda.specs.Terms.{Term, ¬ᵗ_, unit, wellFormed}
 use Rattle.soda.specs.Roles.{UA, assigned, grant, revoke, roles, meets}
 use Rattle.soda.specs.Tables.{Execution, table, satisfied, possible, judge, note}
 use Rattle.soda.specs.Multisets.{singleton, multiset, SatM}
 use Rattle.soda.specs.Traces.{Trace, businessOnly, users, actedBelow, execution, noted, SatT}
 use Rattle.soda.specs.Csp.{Accepts}
-use Rattle.soda.specs.Processes.{Symbol, Users, body, compose, process, SOD, unfinished, finished}
+use Rattle.soda.specs.Processes.{Symbol, Users, body, process, composed, SOD, unfinished, finished}
 
 -- T1. The actions that a run takes, with what it notes of them, are possible exactly when the enforcement process has the trace.
 abbrev pub PossibleIsProcess : Type 1
@@ -57,13 +57,11 @@ MeetsIsSingleton =
     (ua : UA) (u : ℕ) (φ : Term) → So (unit φ)
     → So (meets φ u (roles ua u)) ↔ SatM ua (singleton u) φ
 
--- A unit either or both of Definition 7 may be read by rule 1, or by rules 3 and 4: the traces are the same. For every
--- operator, term and set of users, finished or not.
+-- Both readings of Definition 7 give processes with the same traces, finished or not: an either or both that is a unit term goes by
+-- rule 1 in one, by rules 3 and 4 in the other, at every depth. For every term, well formed or not, and every set of users.
 abbrev pub Readings : Type 1
 Readings =
-    (op : Op) (φ ψ : Term) (ua : UA) (U : Users) (t : Trace)
-    → (Accepts body (process (bin op φ ψ) ua U) (unfinished t) ↔ Accepts body (compose op (process φ ua) (process ψ ua) U) (unfinished t))
-    × (Accepts body (process (bin op φ ψ) ua U) (finished t) ↔ Accepts body (compose op (process φ ua) (process ψ ua) U) (finished t))
+    (φ : Term) (ua : UA) (U : Users) (t : List Symbol) → Accepts body (process φ ua U) t ↔ Accepts body (composed φ ua U) t
 
 -- Nothing follows done in a trace of a process.
 abbrev pub NothingFollowsDone : Type 1

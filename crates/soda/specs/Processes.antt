@@ -91,7 +91,7 @@ compose both p q U = parallel (λ e. true) (p U) (q U)
 compose together p q U = parallel sync (p U) (q U)
 compose apart p q U = some (Parts U) (λ s. parallel sync (p (s .one)) (q (s .two)))
 
--- Definition 7. Rule 1 goes before rules 3 and 4; by the statement `Readings` of Accuracy the traces are the same.
+-- Definition 7, where rule 1 goes before rules 3 and 4.
 unfoldable pub process : Term → UA → Users → P
 process everyone ua U = call (once everyone U ua)
 process (role r) ua U = call (once (role r) U ua)
@@ -99,6 +99,16 @@ process (set m) ua U = call (once (set m) U ua)
 process (¬ᵗ φ) ua U = call (once (¬ᵗ φ) U ua)
 process (φ ⁺) ua U = call (repeat φ U ua)
 process (bin op φ ψ) ua U = cond (unit (bin op φ ψ)) (call (once (bin op φ ψ) U ua)) (compose op (process φ ua) (process ψ ua) U)
+
+-- Definition 7 read the other way: every either and both goes by rules 3 and 4, inside a unit term too. By the statement
+-- `Readings` of Accuracy the traces are the same.
+unfoldable pub composed : Term → UA → Users → P
+composed everyone ua U = call (once everyone U ua)
+composed (role r) ua U = call (once (role r) U ua)
+composed (set m) ua U = call (once (set m) U ua)
+composed (¬ᵗ φ) ua U = call (once (¬ᵗ φ) U ua)
+composed (φ ⁺) ua U = call (repeat φ U ua)
+composed (bin op φ ψ) ua U = compose op (composed φ ua) (composed ψ ua) U
 
 -- Definition 8: the enforcement process of φ over the users numbered below n
 abbrev pub SOD : Term → ℕ → UA → P
