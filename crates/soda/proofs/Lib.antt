@@ -24,5 +24,5 @@ pub mod Processes
 pub mod Endings
 pub mod Readings
 pub mod Accuracy
--- The papers' examples.
+-- Computed tests.
 pub mod Examples
