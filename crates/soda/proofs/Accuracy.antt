@@ -2,7 +2,8 @@
 use mathlib.Core.Path.{_≡_, refl, sym, ap, subst, _∙_}
 use mathlib.Core.Logic.{_↔_}
 use mathlib.Core.Bool.{Bool, true, false, So}
-use mathlib.Core.List.{List, [], _∷_, map}
+use mathlib.Core.List.{List, [], _∷_}
+pub use mathlib.Core.List.{map-map}
 use Prim.Native.Nat.{ℕ}
 use lib.Dec.{ltb}
 use Rattle.soda.specs.Roles.{UA, grant, revoke}
@@ -41,10 +42,6 @@ theorem-1 φ w n ua t h =
     let p = subst (λ s. So (judge false φ (executed ua t)) ↔ Accepts body (SOD φ n ua) s) (ending-finished t) (judge-is-process false ua φ (λ u. ltb u n) t (acted-within n t ua h)) in
     let q = judge-is-trace φ w ua t in
     (λ x. q .0 (p .1 x), λ y. p .0 (q .1 y))
-
-pub map-map : {A B C : Type 0} (f : B → C) (g : A → B) (s : List A) → map f (map g s) ≡ map (λ x. f (g x)) s
-map-map f g [] = refl
-map-map f g (x ∷ s) = ap (λ l. f (g x) ∷ l) (map-map f g s)
 
 pub satisfied-is-users : SatisfiedIsUsers
 satisfied-is-users φ w ua s = subst (λ l. So (satisfied φ 0 l) ↔ SatM ua (multiset s) φ) (map-map (note φ) (execution ua) s)

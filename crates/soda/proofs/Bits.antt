@@ -6,7 +6,7 @@ use Prim.Native.Nat.{ℕ, zero, suc, _+_, _-_, _*_, _/_, _%_, _^_, _≤_, _<_}
 use native.Mathlib.Omega.{arith}
 use native.Mathlib.Nat.{pow-suc, zero-div}
 use lib.Dec.{eqb, eqb·zero-suc, eqb·suc-zero, eqb·suc-suc}
-use lib.ListN.{getD}
+use lib.ListN.{length, getD}
 use lib.Pow.{shr-shr}
 use Rattle.soda.specs.Bits.{bit, setBit, clearBit, number}
 use Rattle.soda.proofs.Bools.{so-eq}
@@ -102,9 +102,17 @@ bit-zero : (b : Bool) (n : ℕ) → bit 0 (cond b 1 0 + 2 * n) ≡ b
 bit-zero true n = let k : (1 + 2 * n) / 1 % 2 ≡ 1 = omega arith in ap (λ x. eqb x 1) k
 bit-zero false n = let k : (0 + 2 * n) / 1 % 2 ≡ 0 = omega arith in ap (λ x. eqb x 1) k
 
-half-digit : (b : Bool) (n : ℕ) → (cond b 1 0 + 2 * n) / 2 ≡ n
+pub half-digit : (b : Bool) (n : ℕ) → (cond b 1 0 + 2 * n) / 2 ≡ n
 half-digit true n = omega arith
 half-digit false n = omega arith
+
+pub digit-lt : (b : Bool) → cond b 1 0 < 2
+digit-lt true = omega arith
+digit-lt false = omega arith
+
+pub number-lt : (l : List Bool) → number l < 2 ^ length l
+number-lt [] = omega arith
+number-lt (b ∷ l) = omega (arith, digit-lt b, number-lt l, pow-suc 2 (length l))
 
 pub bit-number : (l : List Bool) (i : ℕ) → bit i (number l) ≡ getD l i false
 bit-number [] i = bit-of-zero i

@@ -1,19 +1,18 @@
--- The theorems on the normal form and equal forms that specs/EqualForms states.
+-- What the normal form keeps, and equal forms on words.
 use mathlib.Core.Path.{sym, _∙_, ap}
 use Rattle.soda.specs.Words.{encode}
 use Rattle.soda.specs.Normal.{normalForm}
-use Rattle.soda.specs.EqualForms.{SameFormIsSteps, SameWordsIsWordSteps, NormalKeeps, NormalIsNormal, NormalIsChain, OperandsAscend, WordsAreOneTerm, DeclaredFits}
-use Rattle.soda.proofs.Words.{read-once, encode-inj, declared-fits as fits-of-declared}
+use Rattle.soda.specs.EqualForms.{SameWordsIsWordSteps, NormalKeeps, NormalIsNormal}
+pub use Rattle.soda.proofs.Words.{words-are-one-term, declared-fits}
+use Rattle.soda.proofs.Words.{encode-inj}
 use Rattle.soda.proofs.Steps.{steps-formed, steps-declared, steps-fits, steps-size, steps-count}
-use Rattle.soda.proofs.Normal.{steps-nf, nf-steps, equal-forms, nf-chain, parts-ascending}
+pub use Rattle.soda.proofs.Normal.{same-form-is-steps, normal-is-chain, operands-ascend}
+use Rattle.soda.proofs.Normal.{steps-nf, nf-steps}
 use Rattle.soda.proofs.WordSteps.{words-related}
-
-pub same-form-is-steps : SameFormIsSteps
-same-form-is-steps = equal-forms
 
 pub same-words-is-word-steps : SameWordsIsWordSteps
 same-words-is-word-steps φ ψ f g = (
-  λ e. words-related φ ψ f g .1 (equal-forms φ ψ f .0
+  λ e. words-related φ ψ f g .1 (same-form-is-steps φ ψ f .0
       (encode-inj (normalForm φ) (normalForm ψ) (sym (steps-fits (steps-nf φ)) ∙ f) (sym (steps-fits (steps-nf ψ)) ∙ g) e)),
   λ p. ap encode (nf-steps f (words-related φ ψ f g .0 p)),
 )
@@ -32,15 +31,3 @@ normal-keeps φ =
 
 pub normal-is-normal : NormalIsNormal
 normal-is-normal φ f = sym (nf-steps f (steps-nf φ))
-
-pub normal-is-chain : NormalIsChain
-normal-is-chain = nf-chain
-
-pub operands-ascend : OperandsAscend
-operands-ascend = parts-ascending
-
-pub words-are-one-term : WordsAreOneTerm
-words-are-one-term = read-once
-
-pub declared-fits : DeclaredFits
-declared-fits = fits-of-declared

@@ -1,6 +1,5 @@
 -- A term and its normal form are related by steps, and related terms that fit have one normal form; the normal form as a chain.
 use mathlib.Core.Path.{_≡_, refl, sym, _∙_, ap, subst}
-use mathlib.Core.Logic.{_↔_}
 use mathlib.Core.Bool.{false, So}
 use mathlib.Core.List.{List, [], _∷_, _++_, map, map-append, append-assoc}
 use Prim.Native.Nat.{_<_}
@@ -11,6 +10,7 @@ use Rattle.soda.specs.Terms.{Op, either, both, together, apart, Term, ev
 use Rattle.soda.specs.Words.{fits, termLe}
 use Rattle.soda.specs.Steps.{Turn, exchange, regroup, back, Step, here, in-not, in-plus, in-left, in-right, Steps}
 use Rattle.soda.specs.Normal.{operands, chain, sorted, normalForm}
+use Rattle.soda.specs.EqualForms.{SameFormIsSteps, OperandsAscend, NormalIsChain}
 use Rattle.soda.proofs.Bools.{never, by-test, and-split, and-join}
 use Rattle.soda.proofs.Sorting.{All, all-append, insert-length, merge, merge-sort}
 use Rattle.soda.proofs.Sorting.{sort-length, sort-all, sort-ascending, sort-sort, sort-comm, sort-left, sort-right}
@@ -49,7 +49,7 @@ by-operands op P one two (bin o φ ψ) = by-test (sameOp op o)
     (λ e. subst (λ (p : Op). P (bin p φ ψ)) (sameOp-eq op o e) (two φ ψ (by-operands op P one two φ) (by-operands op P one two ψ)))
     λ e. one (bin o φ ψ) (rw e)
 
-operands-some : (op : Op) (φ : Term) → 0 < length (operands op φ)
+pub operands-some : (op : Op) (φ : Term) → 0 < length (operands op φ)
 operands-some op = by-operands op (λ φ. 0 < length (operands op φ)) (λ φ e. rw e (omega arith))
     λ φ ψ h k. rw (operands-same op φ ψ) (omega (arith, length-append (operands op φ) (operands op ψ)))
 
@@ -60,7 +60,7 @@ operands-plain : (op : Op) (φ : Term) → All (Plain op) (operands op φ)
 operands-plain op = by-operands op (λ φ. All (Plain op) (operands op φ)) (λ φ e. subst (λ (l : List Term). All (Plain op) l) (sym e) (e, tt))
     λ φ ψ h k. subst (λ (l : List Term). All (Plain op) l) (sym (operands-same op φ ψ)) (all-append (Plain op) (operands op φ) (operands op ψ) h k)
 
-chain-cons : (op : Op) (φ : Term) (l : List Term) → 0 < length l → chain op (φ ∷ l) ≡ bin op φ (chain op l)
+pub chain-cons : (op : Op) (φ : Term) (l : List Term) → 0 < length l → chain op (φ ∷ l) ≡ bin op φ (chain op l)
 chain-cons op φ [] h = absurd (omega arith)
 chain-cons op φ (ψ ∷ l) h = refl
 
@@ -177,9 +177,8 @@ pub nf-steps : {a b : Term} → So (fits a) → Steps a b → normalForm a ≡ n
 nf-steps f Steps.none = refl
 nf-steps f (Steps.step s p) = nf-step f s ∙ nf-steps (sym (steps-fits (Steps.step s Steps.none)) ∙ f) p
 
--- equal normal forms are what exchanging and regrouping relate
-pub equal-forms : (φ ψ : Term) → So (fits φ) → (normalForm φ ≡ normalForm ψ) ↔ Steps φ ψ
-equal-forms φ ψ f = (λ e. steps-trans (steps-nf φ) (steps-trans (steps-eq e) (steps-back (steps-nf ψ))), nf-steps f)
+pub same-form-is-steps : SameFormIsSteps
+same-form-is-steps φ ψ f = (λ e. steps-trans (steps-nf φ) (steps-trans (steps-eq e) (steps-back (steps-nf ψ))), nf-steps f)
 
 -- ── the normal form as a chain ──
 -- a chain of two or more begins with its operator, so for another operator it is one operand
@@ -200,13 +199,13 @@ plain-nf op (bin o φ ψ) e = by-test (sameOp op o)
     λ d. chain-plain op o (sorted (parts o φ ++ parts o ψ)) d
     (omega (arith, sort-length termLe (parts o φ ++ parts o ψ), operands-two o (normalForm φ) (normalForm ψ)))
 
--- the operands of a normal form are ascending, so the two sides' operands need only be merged
-pub parts-ascending : (op : Op) (φ : Term) → So (ascending termLe (parts op φ))
-parts-ascending op = by-operands op (λ φ. So (ascending termLe (parts op φ))) (λ φ e. rw (plain-nf op φ e) refl)
+-- the two sides' operands need only be merged
+pub operands-ascend : OperandsAscend
+operands-ascend op = by-operands op (λ φ. So (ascending termLe (parts op φ))) (λ φ e. rw (plain-nf op φ e) refl)
     λ φ ψ h k. rw (parts-bin op φ ψ) (sort-ascending termLe term-total (parts op φ ++ parts op ψ))
 
 pub nf-merge : (op : Op) (φ ψ : Term) → normalForm (bin op φ ψ) ≡ chain op (merge termLe (parts op φ) (parts op ψ))
-nf-merge op φ ψ = ap (chain op) (sym (merge-sort termLe term-total term-trans (parts op φ) (parts op ψ) (parts-ascending op φ) (parts-ascending op ψ)))
+nf-merge op φ ψ = ap (chain op) (sym (merge-sort termLe term-total term-trans (parts op φ) (parts op ψ) (operands-ascend op φ) (operands-ascend op ψ)))
 
 -- the normal forms of a term's operands are the operands of its normal form, in some order
 nfs-fit : (l : List Term) → All Fits l → All Fits (map normalForm l)
@@ -224,5 +223,5 @@ parts-operands op = by-operands op (λ φ. Fits φ → sorted (map normalForm (o
     (nfs-fit (operands op ψ) (operands-fit op ψ (s .1))) (h (s .0))
     ∙ sort-right termLe (parts op φ) m (parts op ψ) (k (s .1)) ∙ sym (parts-sorted op φ ψ)
 
-pub nf-chain : (op : Op) (φ ψ : Term) → So (fits (bin op φ ψ)) → normalForm (bin op φ ψ) ≡ chain op (sorted (map normalForm (operands op (bin op φ ψ))))
-nf-chain op φ ψ f = ap (chain op) (sym (parts-sorted op φ ψ) ∙ sym (parts-operands op (bin op φ ψ) f))
+pub normal-is-chain : NormalIsChain
+normal-is-chain op φ ψ f = ap (chain op) (sym (parts-sorted op φ ψ) ∙ sym (parts-operands op (bin op φ ψ) f))

@@ -4,13 +4,13 @@ use mathlib.Core.Logic.{inl, inr}
 use mathlib.Core.Bool.{Bool, true, false, So, cond}
 use mathlib.Core.List.{List, [], _∷_}
 use Prim.Native.Nat.{ℕ, _+_}
-use Rattle.soda.specs.Lists.{all, Split, nil, left, right}
+use Rattle.soda.specs.Lists.{Split, nil, left, right}
 use Rattle.soda.specs.Terms.{Op, either, both, together, apart, everyone, role, set, ¬ᵗ_, _⁺, bin, unit, size}
 use Rattle.soda.specs.Tables.{single, several, join, table}
 use Rattle.soda.specs.Accuracy.{PartIsPossible, SatisfiedIsPossible}
 use Rattle.soda.proofs.Bools.{never, and-split, and-join, or-split, or-left, or-right}
 use Rattle.soda.proofs.Splits.{all-part, cross}
-use Rattle.soda.proofs.Tables.{Judgement, together-out, together-in, apart-out, apart-in}
+use Rattle.soda.proofs.Tables.{several-all, all-several, Judgement, together-out, together-in, apart-out, apart-in}
 use Rattle.soda.proofs.Joins.{acts-left, disjoint-in, disjoint-out}
 
 module _ {A : Type 0} where
@@ -24,13 +24,8 @@ module _ {A : Type 0} where
   single-part f (right {x = x} {s = []} p) h = rw (part-nil p) refl
   single-part f (right {x = x} {s = y ∷ s} p) h = never h
 
-  -- for possible, row "plus" is `all`
-  several-all : (f : A → Bool) (s : List A) → several true f s ≡ all f s
-  several-all f [] = refl
-  several-all f (a ∷ s) = refl
-
   several-part : (f : A → Bool) {s l r : List A} → Split s l r → So (several true f s) → So (several true f l)
-  several-part f {s} {l} p h = rw (several-all f l) (all-part f p (rw (several-all f s) at h))
+  several-part f {s} {l} p h = all-several f l (all-part f p (several-all f true s h))
 
   single-possible : (f : A → Bool) (s : List A) → So (single false f s) → So (single true f s)
   single-possible f [] h = refl
@@ -38,8 +33,7 @@ module _ {A : Type 0} where
   single-possible f (a ∷ b ∷ s) h = h
 
   several-possible : (f : A → Bool) (s : List A) → So (several false f s) → So (several true f s)
-  several-possible f [] h = refl
-  several-possible f (a ∷ s) h = h
+  several-possible f s h = all-several f s (several-all f false s h)
 
 module _ {A : Type 0} (user : A → ℕ) where
   -- one list judged by f and g, another by f′ and g′, where the sides' parts carry over

@@ -14,7 +14,7 @@ use Rattle.soda.specs.Csp.{Process, prefix, choice, some, parallel, call
 use Rattle.soda.specs.Processes.{Symbol, event, done, Users, P, Name, fin, once, repeat, waiting, body, sync, Parts, compose, process, unfinished, finished}
 use Rattle.soda.proofs.Bools.{never, and-split, and-join, or-split, or-left, or-right, not-so, so-eq, eq-so}
 use Rattle.soda.proofs.Splits.{all-part, all-parts, split-swap}
-use Rattle.soda.proofs.Tables.{Judgement, Halves, together-out, together-in, apart-out, apart-in, who, judge-unit, not-row, judge-plus, judge-bin}
+use Rattle.soda.proofs.Tables.{several-all, Judgement, Halves, together-out, together-in, apart-out, apart-in, who, judge-unit, not-row, judge-plus, judge-bin}
 use Rattle.soda.proofs.Joins.{acts-left, disjoint-in, disjoint-out}
 use Rattle.soda.proofs.Traces.{si-split, split-si, is-nil}
 
@@ -131,11 +131,6 @@ module _ (e : Bool) (f : Execution → Bool) (a : Execution) where
   single-in : (s : List Execution) → So (f a) → s ≡ [] → So (single e f (a ∷ s))
   single-in s h k = ap (λ l. single e f (a ∷ l)) k ∙ h
 
--- all of a list passes, and the list may be empty
-several-all : (e : Bool) (f : Execution → Bool) (s : List Execution) → So (several e f s) → So (all f s)
-several-all e f [] h = refl
-several-all e f (a ∷ s) h = h
-
 once-in : (φ : Term) (U : Users) (e : Bool) (t : Trace) (ua : UA) → So (within U (executed ua t)) → So (single e (metBy φ) (executed ua t)) → Has (call (once φ U ua)) (ending e t)
 unfolding ending
 once-in φ U true [] ua w h = by-call (by-left at-prefix)
@@ -207,7 +202,7 @@ repeat-out φ U e (business u a ∷ t) ua h =
     go : Has (call fin) (ending e t) ⊎ Has (call (repeat φ U ua)) (ending e t)
         → (Has (call (repeat φ U ua)) (ending e t) → Told (several e (metBy φ) (executed ua t)) U (executed ua t)) → Told (all (metBy φ) (executed ua t)) U (executed ua t)
     go (inl x) ih = let k = fin-out e t ua x in (ap (all (metBy φ)) k, ap (within U) k)
-    go (inr y) ih = let (l, w) = ih y in (several-all e (metBy φ) (executed ua t) l, w)
+    go (inr y) ih = let (l, w) = ih y in (several-all (metBy φ) e (executed ua t) l, w)
 repeat-out φ U e (addUA u r ∷ t) ua h = repeat-out φ U e t (grant ua u r) (added-out φ U ua (repeat φ U) (choice (call fin) (call (repeat φ U ua))) (call-out h))
 repeat-out φ U e (rmUA u r ∷ t) ua h = repeat-out φ U e t (revoke ua u r) (removed-out φ U ua (repeat φ U) (choice (call fin) (call (repeat φ U ua))) (call-out h))
 

@@ -5,6 +5,7 @@ use mathlib.Core.List.{List, [], _∷_, _++_, append-nil}
 use Prim.Native.Nat.{suc}
 use lib.ListN.{length}
 use Rattle.soda.specs.Lists.{insert, sort, ascending}
+pub use Rattle.soda.specs.Merges.{merge}
 use Rattle.soda.proofs.Bools.{by-test, not-so, and-split, and-join}
 
 -- P holds of every element
@@ -21,15 +22,6 @@ module _ {A : Type 0} (le : A → A → Bool) where
   abbrev insertAll : List A → List A → List A
   insertAll [] l = l
   insertAll (x ∷ xs) l = insert le x (insertAll xs l)
-
-  -- Two ascending lists as one. `mergeInto x rest ys`: x and what follows it in the first list (`rest` merges that), with ys.
-  abbrev pub mergeInto : A → (List A → List A) → List A → List A
-  mergeInto x rest [] = x ∷ rest []
-  mergeInto x rest (y ∷ ys) = cond (le x y) (x ∷ rest (y ∷ ys)) (y ∷ mergeInto x rest ys)
-
-  abbrev pub merge : List A → List A → List A
-  merge [] ys = ys
-  merge (x ∷ xs) ys = mergeInto x (merge xs) ys
 
   -- x is not above the first element, if there is one
   abbrev Ahead : A → List A → Type 0
@@ -83,7 +75,7 @@ module _ {A : Type 0} (le : A → A → Bool) where
     sort-all [] p = tt
     sort-all (x ∷ l) p = insert-all x (sort le l) (p .0) (sort-all l (p .1))
 
-  merge-ahead : (x : A) (xs ys : List A) → Ahead x xs → Ahead x ys → Ahead x (merge xs ys)
+  merge-ahead : (x : A) (xs ys : List A) → Ahead x xs → Ahead x ys → Ahead x (merge le xs ys)
   merge-ahead x [] ys h k = k
   merge-ahead x (z ∷ xs) [] h k = h
   merge-ahead x (z ∷ xs) (y ∷ ys) h k = by-test (le z y) (λ e. rw e h) λ e. rw e k
@@ -115,22 +107,22 @@ module _ {A : Type 0} (le : A → A → Bool) where
 
     -- and transitive
     module _ (trans : (x y z : A) → So (le x y) → So (le y z) → So (le x z)) where
-      merge-past : (x : A) (xs : List A) (y : A) (ys : List A) → So (ascending le (x ∷ xs)) → le x y ≡ false → merge xs (y ∷ ys) ≡ y ∷ merge xs ys
+      merge-past : (x : A) (xs : List A) (y : A) (ys : List A) → So (ascending le (x ∷ xs)) → le x y ≡ false → merge le xs (y ∷ ys) ≡ y ∷ merge le xs ys
       merge-past x [] y ys h e = refl
       merge-past x (z ∷ xs) y ys h e = rw (not-so (le z y) λ d. false≢true (sym e ∙ trans x z y (ascending-head x (z ∷ xs) h) d))
 
-      merge-insert : (x : A) (xs ys : List A) → So (ascending le (x ∷ xs)) → merge (x ∷ xs) ys ≡ insert le x (merge xs ys)
-      merge-insert x xs [] h = sym (insert-ahead x (merge xs []) (merge-ahead x xs [] (ascending-head x xs h) tt))
+      merge-insert : (x : A) (xs ys : List A) → So (ascending le (x ∷ xs)) → merge le (x ∷ xs) ys ≡ insert le x (merge le xs ys)
+      merge-insert x xs [] h = sym (insert-ahead x (merge le xs []) (merge-ahead x xs [] (ascending-head x xs h) tt))
       merge-insert x xs (y ∷ ys) h = by-test (le x y)
-          (λ e. rw e (sym (insert-ahead x (merge xs (y ∷ ys)) (merge-ahead x xs (y ∷ ys) (ascending-head x xs h) e))))
+          (λ e. rw e (sym (insert-ahead x (merge le xs (y ∷ ys)) (merge-ahead x xs (y ∷ ys) (ascending-head x xs h) e))))
           λ e. rw (merge-past x xs y ys h e, e) (ap {B = List A} (λ r. y ∷ r) (merge-insert x xs ys h))
 
-      merge-insertAll : (xs ys : List A) → So (ascending le xs) → merge xs ys ≡ insertAll xs ys
+      merge-insertAll : (xs ys : List A) → So (ascending le xs) → merge le xs ys ≡ insertAll xs ys
       merge-insertAll [] ys h = refl
       merge-insertAll (x ∷ xs) ys h = merge-insert x xs ys h ∙ ap (insert le x) (merge-insertAll xs ys (ascending-tail x xs h))
 
       -- merging two ascending lists sorts what they hold
-      pub merge-sort : (xs ys : List A) → So (ascending le xs) → So (ascending le ys) → merge xs ys ≡ sort le (xs ++ ys)
+      pub merge-sort : (xs ys : List A) → So (ascending le xs) → So (ascending le ys) → merge le xs ys ≡ sort le (xs ++ ys)
       merge-sort xs ys h k = merge-insertAll xs ys h ∙ ap (insertAll xs) (sym (sort-id ys k)) ∙ sym (sort-append xs ys)
 
       -- the order of two insertions does not matter

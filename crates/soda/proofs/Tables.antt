@@ -24,6 +24,16 @@ module _ {A : Type 0} (e : Bool) (f g : A → Bool) where
   single-and (a ∷ []) = refl
   single-and (a ∷ b ∷ s) = refl
 
+-- row "plus" is `all`, but for the empty list
+module _ {A : Type 0} (f : A → Bool) where
+  pub several-all : (e : Bool) (s : List A) → So (several e f s) → So (all f s)
+  several-all e [] h = refl
+  several-all e (a ∷ s) h = h
+
+  pub all-several : (s : List A) → So (all f s) → So (several true f s)
+  all-several [] h = refl
+  all-several (a ∷ s) h = h
+
 -- a judgement of lists of actions
 abbrev pub Judgement : Type 0 → Type 0
 Judgement A = List A → Bool

@@ -4,7 +4,7 @@ use mathlib.Core.Bool.{Bool, false}
 use mathlib.Core.List.{List, [], _∷_, map}
 use Prim.Native.Nat.{ℕ, zero, suc, _+_, _≤_, _<_}
 use native.Mathlib.Omega.{arith}
-use lib.ListN.{length, getD, length-append, length-map, List·getD-append}
+use lib.ListN.{length, getD, length-append, length-map, List·getD-eq-default, List·getD-append}
 use lib.Seq.{getD-append-add}
 use Rattle.soda.specs.Bits.{bit}
 use Rattle.soda.specs.Terms.{Op, Term, everyone, role, set, ¬ᵗ_, _⁺, bin, size, subterms, termAt, marks}
@@ -85,18 +85,13 @@ map-at f [] i a b h = absurd (omega arith)
 map-at f (x ∷ l) zero a b h = refl
 map-at f (x ∷ l) (suc i) a b h = map-at f l i a b (omega arith)
 
-pub past-end : {A : Type 0} (l : List A) (i : ℕ) (a : A) → length l ≤ i → getD l i a ≡ a
-past-end [] i a h = refl
-past-end (x ∷ l) zero a h = absurd (omega arith)
-past-end (x ∷ l) (suc i) a h = past-end l i a (omega arith)
-
 module _ (f : Term → Bool) (ρ : Term) where
   pub bit-marks : (i : ℕ) → i < size ρ → bit i (marks f ρ) ≡ f (termAt ρ i)
   bit-marks i h = bit-number (map f (subterms ρ)) i ∙ map-at f (subterms ρ) i everyone false (omega (arith, subterms-length ρ))
 
   pub bit-marks-past : (i : ℕ) → size ρ ≤ i → bit i (marks f ρ) ≡ false
   bit-marks-past i h = bit-number (map f (subterms ρ)) i
-      ∙ past-end (map f (subterms ρ)) i false (omega (arith, length-map (subterms ρ) f, subterms-length ρ))
+      ∙ List·getD-eq-default (map f (subterms ρ)) false (omega (arith, length-map (subterms ρ) f, subterms-length ρ))
 
 -- the bit of a term that stands at word i
 pub bit-standing : (f : Term → Bool) {ρ : Term} {i : ℕ} {φ : Term} → Stands ρ i φ → bit i (marks f ρ) ≡ f φ

@@ -12,7 +12,7 @@ use Rattle.soda.specs.Tables.{single, several, disjoint, join, Execution
 use Rattle.soda.specs.Multisets.{Multiset, singleton, multiset, _⊎ᵐ_, _∩ᵐ_, ∅ᵐ}
 use Rattle.soda.specs.Traces.{Event, business, addUA, rmUA, admin, upd, Trace, users, execution, executed, Si, si-nil, si-both, si-left, si-right, SatT, t1, t2, t3, t4, t5, t6, t7, t8, t9, t10, t11}
 use Rattle.soda.proofs.Bools.{never, and-split, and-join, or-split, or-left, or-right}
-use Rattle.soda.proofs.Tables.{Judgement, together-out, together-in, apart-out, apart-in, who, judge-unit, judge-plus, judge-bin}
+use Rattle.soda.proofs.Tables.{several-all, Judgement, together-out, together-in, apart-out, apart-in, who, judge-unit, judge-plus, judge-bin}
 use Rattle.soda.proofs.Multisets.{meets-is-singleton, disjoint-multisets, multisets-disjoint}
 
 -- ── the actions of a trace ──
@@ -73,11 +73,6 @@ users-executed (rmUA u r ∷ t) ua = users-executed t (revoke ua u r)
 one-met : (ua : UA) (u a : ℕ) (φ : Term) → So (unit φ) → So (judge false φ (executed ua (business u a ∷ []))) → So (meets φ u (roles ua u))
 one-met ua u a φ v h = sym (judge-unit false φ v (execution ua u ∷ [])) ∙ h
 
--- all of a list that is not empty
-several-tail : {A : Type 0} (f : A → Bool) (s : List A) → So (several false f s) → So (all f s)
-several-tail f [] h = never h
-several-tail f (a ∷ s) h = h
-
 pub satisfied-sound : {ua : UA} {t : Trace} {φ : Term} → SatT ua t φ → So (judge false φ (executed ua t))
 satisfied-sound {ua} (t1 {u = u} {φ = φ} v s) = judge-unit false φ v (execution ua u ∷ []) ∙ meets-is-singleton ua u φ v .1 s
 satisfied-sound {ua} (t2 {t = t} a {φ = φ} h s) = ap (judge false φ) (executed-last t ua a h) ∙ satisfied-sound s
@@ -86,7 +81,7 @@ satisfied-sound (t4 s) = satisfied-sound s
 satisfied-sound {ua} (t5 {u = u} {a = a} {φ = φ} v s) = judge-plus false φ (execution ua u ∷ []) ∙ and-join (meets φ u (roles ua u)) true (one-met ua u a φ v (satisfied-sound s)) refl
 satisfied-sound {ua} (t6 {u = u} {a = a} {t = t} {φ = φ} v s k) =
     judge-plus false φ (execution ua u ∷ executed ua t) ∙ and-join (meets φ u (roles ua u)) (all (metBy φ) (executed ua t)) (one-met ua u a φ v (satisfied-sound s))
-    (several-tail (metBy φ) (executed ua t) (sym (judge-plus false φ (executed ua t)) ∙ satisfied-sound k))
+    (several-all (metBy φ) false (executed ua t) (sym (judge-plus false φ (executed ua t)) ∙ satisfied-sound k))
 satisfied-sound {ua} {t} (t7 {φ = φ} {ψ = ψ} s) =
     judge-bin false either φ ψ (executed ua t) ∙ or-left (judge false φ (executed ua t)) (judge false ψ (executed ua t)) (satisfied-sound s)
 satisfied-sound {ua} {t} (t8 {φ = φ} {ψ = ψ} s) =

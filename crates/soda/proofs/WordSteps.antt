@@ -11,7 +11,7 @@ use Rattle.soda.specs.Words.{word, opWord, encode, fits}
 use Rattle.soda.specs.Steps.{Turn, Step, here, in-not, in-plus, in-left, in-right, Steps, WordStep, WordSteps}
 use Rattle.soda.proofs.Bools.{and-split}
 use Rattle.soda.proofs.Terms.{size-pos}
-use Rattle.soda.proofs.Words.{encode-length, read-once, encode-inj}
+use Rattle.soda.proofs.Words.{encode-length, words-are-one-term, encode-inj}
 use Rattle.soda.proofs.Steps.{steps-fits}
 
 -- ── a step on the words of a term is a step on the term ──
@@ -35,7 +35,7 @@ module _ (old new : Term) (turn : Turn old new) (layout : So (fits old)) (after 
 
   whole : (φ : Term) (rest : List ℕ) → So (fits φ) → Stands φ rest [] → Replaced φ rest []
   whole φ rest f e =
-      let r = read-once φ old rest after f layout e in
+      let r = words-are-one-term φ old rest after f layout e in
       (new, subst (λ (χ : Term). Step χ new) (sym (r .0)) (here turn), ap (λ (l : List ℕ). encode new ++ l) (sym (r .1)))
 
   leaf : (φ : Term) (rest before : List ℕ) → So (fits φ) → Stands φ rest before → length before < 1 → Replaced φ rest before

@@ -3,13 +3,14 @@ use mathlib.Core.Path.{_≡_, refl, sym, _∙_, ap, ap₂}
 use mathlib.Core.Logic.{_⊎_, inl, inr}
 use mathlib.Core.Bool.{Bool, false, So, not, _&&_, _||_, cond, true≢false}
 use mathlib.Core.List.{List, [], _∷_, _++_, map, tail, map-append, append-assoc, append-nil}
-use Prim.Native.Nat.{ℕ, _^_, _≤_, _<_}
+use Prim.Native.Nat.{ℕ, _^_, _<_}
 use native.Mathlib.Nat.{pow-le-pow-right}
 use native.Mathlib.Omega.{arith}
 use lib.Dec.{ltb, eqb, lit<}
 use lib.ListN.{length, getD, length-map}
-use Rattle.soda.specs.Terms.{Op, either, both, together, apart, Term, everyone, role, set, ¬ᵗ_, _⁺, bin, size, subterms}
+use Rattle.soda.specs.Terms.{Op, either, both, together, apart, Term, everyone, role, set, ¬ᵗ_, _⁺, bin, sameOp, size, subterms}
 use Rattle.soda.specs.Words.{word, opKind, encode, fits, declared, wordsLe, termLe}
+use Rattle.soda.specs.EqualForms.{WordsAreOneTerm, DeclaredFits}
 use Rattle.soda.proofs.Terms.{subterms-length}
 use Rattle.soda.proofs.Bools.{never, not-so, and-split, and-join, or-split, or-left, or-right, lt-so, so-lt, eq-so, so-eq, less, same, more, order}
 
@@ -59,6 +60,20 @@ words-antisym (a ∷ u) (b ∷ v) p q = elim (le-cons a b u v p) [
     | inr k ↦ λ i. h .0 i ∷ words-antisym u v (h .1) (k .1) i
   ]
 ]
+
+-- ── operators ──
+-- their kinds are above those of the other words, and tell them apart
+pub op-high : (op : Op) → 5 < opKind op
+op-high either = omega arith
+op-high both = omega arith
+op-high together = omega arith
+op-high apart = omega arith
+
+pub same-kind : (op o : Op) → eqb (opKind op) (opKind o) ≡ sameOp op o
+same-kind either = elim [ either ↦ refl | both ↦ refl | together ↦ refl | apart ↦ refl ]
+same-kind both = elim [ either ↦ refl | both ↦ refl | together ↦ refl | apart ↦ refl ]
+same-kind together = elim [ either ↦ refl | both ↦ refl | together ↦ refl | apart ↦ refl ]
+same-kind apart = elim [ either ↦ refl | both ↦ refl | together ↦ refl | apart ↦ refl ]
 
 -- ── a term's first word, and the terms under it ──
 abbrev pub tag : Term → ℕ
@@ -158,38 +173,37 @@ read-shape φ ψ p q f g e = (λ i. build (kinds i) (operands i) (side ψ)) ∙ 
 read-rest : (φ χ ψ : Term) (p q : List ℕ) → χ ≡ ψ → encode φ ++ p ≡ encode ψ ++ q → tail (encode φ ++ p) ≡ tail (encode χ ++ q)
 read-rest φ χ ψ p q s e = ap (λ (l : List ℕ). tail l) (e ∙ ap (λ (t : Term). encode t ++ q) (sym s))
 
--- Words that begin with a term's words begin with no other term's, and the same words are left over.
-pub read-once : (φ ψ : Term) (p q : List ℕ) → So (fits φ) → So (fits ψ) → encode φ ++ p ≡ encode ψ ++ q → (φ ≡ ψ) × (p ≡ q)
-read-once everyone ψ p q f g e = let s = read-shape everyone ψ p q f g e in (s, read-rest everyone everyone ψ p q s e)
-read-once (role r) ψ p q f g e = let s = read-shape (role r) ψ p q f g e in (s, read-rest (role r) (role r) ψ p q s e)
-read-once (set m) ψ p q f g e = let s = read-shape (set m) ψ p q f g e in (s, read-rest (set m) (set m) ψ p q s e)
-read-once (¬ᵗ φ) ψ p q f g e =
+pub words-are-one-term : WordsAreOneTerm
+words-are-one-term everyone ψ p q f g e = let s = read-shape everyone ψ p q f g e in (s, read-rest everyone everyone ψ p q s e)
+words-are-one-term (role r) ψ p q f g e = let s = read-shape (role r) ψ p q f g e in (s, read-rest (role r) (role r) ψ p q s e)
+words-are-one-term (set m) ψ p q f g e = let s = read-shape (set m) ψ p q f g e in (s, read-rest (set m) (set m) ψ p q s e)
+words-are-one-term (¬ᵗ φ) ψ p q f g e =
     let a = side ψ .0 in
     let s = read-shape (¬ᵗ φ) ψ p q f g e in
-    let r = read-once φ a p q f (ap fits s ∙ g) (read-rest (¬ᵗ φ) (¬ᵗ a) ψ p q s e) in
+    let r = words-are-one-term φ a p q f (ap fits s ∙ g) (read-rest (¬ᵗ φ) (¬ᵗ a) ψ p q s e) in
     (ap ¬ᵗ_ (r .0) ∙ s, r .1)
-read-once (φ ⁺) ψ p q f g e =
+words-are-one-term (φ ⁺) ψ p q f g e =
     let a = side ψ .0 in
     let s = read-shape (φ ⁺) ψ p q f g e in
-    let r = read-once φ a p q f (ap fits s ∙ g) (read-rest (φ ⁺) (a ⁺) ψ p q s e) in
+    let r = words-are-one-term φ a p q f (ap fits s ∙ g) (read-rest (φ ⁺) (a ⁺) ψ p q s e) in
     (ap _⁺ (r .0) ∙ s, r .1)
-read-once (bin op φ χ) ψ p q f g e =
+words-are-one-term (bin op φ χ) ψ p q f g e =
     let a = side ψ .0 in
     let b = side ψ .1 in
     let s = sym (build-op op (side ψ)) ∙ read-shape (bin op φ χ) ψ p q f g e in
     let fs = and-split (fits φ) (fits χ) f in
     let gs = and-split (fits a) (fits b) (ap fits s ∙ g) in
     let rest = sym (append-assoc (encode φ) (encode χ) p) ∙ read-rest (bin op φ χ) (bin op a b) ψ p q s e ∙ append-assoc (encode a) (encode b) q in
-    let r = read-once φ a (encode χ ++ p) (encode b ++ q) (fs .0) (gs .0) rest in
-    let t = read-once χ b p q (fs .1) (gs .1) (r .1) in
+    let r = words-are-one-term φ a (encode χ ++ p) (encode b ++ q) (fs .0) (gs .0) rest in
+    let t = words-are-one-term χ b p q (fs .1) (gs .1) (r .1) in
     (ap₂ (bin op) (r .0) (t .0) ∙ s, t .1)
 
 pub encode-inj : (φ ψ : Term) → So (fits φ) → So (fits ψ) → encode φ ≡ encode ψ → φ ≡ ψ
-encode-inj φ ψ f g e = read-once φ ψ [] [] f g (ap (λ (l : List ℕ). l ++ []) e) .0
+encode-inj φ ψ f g e = words-are-one-term φ ψ [] [] f g (ap (λ (l : List ℕ). l ++ []) e) .0
 
 -- no term's words begin another term's
 pub no-prefix : (φ ψ : Term) (m : List ℕ) → So (fits φ) → So (fits ψ) → encode φ ++ m ≡ encode ψ → φ ≡ ψ
-no-prefix φ ψ m f g e = read-once φ ψ m [] f g (e ∙ sym (append-nil (encode ψ))) .0
+no-prefix φ ψ m f g e = words-are-one-term φ ψ m [] f g (e ∙ sym (append-nil (encode ψ))) .0
 
 -- ── the order on terms ──
 pub term-total : (φ ψ : Term) → termLe φ ψ ≡ false → So (termLe ψ φ)
@@ -223,7 +237,7 @@ pub compare-in-place : (φ ψ : Term) (p q : List ℕ) → So (fits φ) → So (
 compare-in-place φ ψ p q f g d = words-in-place (encode φ) (encode ψ) p q (λ m e. d (no-prefix φ ψ m f g e), λ m e. d (sym (no-prefix ψ φ m g f e)))
 
 -- ── declared terms ──
-pub declared-fits : (users roles : ℕ) (φ : Term) → users ≤ 16 → roles ≤ 16 → So (declared users roles φ) → So (fits φ)
+pub declared-fits : DeclaredFits
 declared-fits users roles everyone hu hr e = refl
 declared-fits users roles (role r) hu hr e = lt-so r (2 ^ 16) (omega (arith, so-lt r roles e))
 declared-fits users roles (set m) hu hr e =

@@ -16,3 +16,5 @@ pub mod Normal
 -- What is proved of them.
 pub mod Accuracy
 pub mod EqualForms
+-- For private contracts.
+pub mod Merges
