@@ -8,6 +8,7 @@ use lib.ListN.{length, drop}
 use Rattle.soda.specs.Terms.{Term}
 use Rattle.soda.specs.Words.{encode}
 use Rattle.soda.specs.Normal.{normalForm}
+use Rattle.policy.specs.Codes.{ACCEPTED, OUTPUT}
 use Rattle.policy.specs.Refusals.{_gives_, code}
 use Rattle.policy.specs.Words.{decode}
 use Rattle.policy.specs.Reading.{refusals}
@@ -22,11 +23,11 @@ normalWords ws = normalIn (decode ws)
 
 -- 5, 1 to 4, 13: an output shorter than the policy; n is the output's length
 unfoldable pub normalRefusals : ℕ → ℕ → List ℕ → ℕ → List (Bool × ℕ)
-normalRefusals users roles ws n = refusals users roles ws ++ ((ltb n (length ws) gives 13) ∷ [])
+normalRefusals users roles ws n = refusals users roles ws ++ ((ltb n (length ws) gives OUTPUT) ∷ [])
 
 abbrev pub normalCode : ℕ → ℕ → List ℕ → ℕ → ℕ
 normalCode users roles ws n = code (normalRefusals users roles ws n)
 
 -- the normal form at the output's start, the rest kept; a refusal changes nothing
 unfoldable pub normalOut : ℕ → ℕ → List ℕ → List ℕ → List ℕ
-normalOut users roles ws out = cond (eqb (normalCode users roles ws (length out)) 0) (normalWords ws ++ drop (length ws) out) out
+normalOut users roles ws out = cond (eqb (normalCode users roles ws (length out)) ACCEPTED) (normalWords ws ++ drop (length ws) out) out

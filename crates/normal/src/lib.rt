@@ -8,6 +8,7 @@ ghost use Rattle.policy.specs.Words.{kind, sides};
 ghost use Rattle.normal.specs.NormalForms.{normalCode, normalOut};
 ghost use Rattle.normal.specs.Merging.{span, operandOf, Spelt, Written, Merging, Merged};
 use policy::PolicyRead;
+use policy::codes;
 
 // How many sides a word has.
 fn sides_of(w: u32) -> u8
@@ -145,8 +146,8 @@ pub fn normal_form(users: u8, roles: u8, words: &[u32], out: &mut [u32]) -> u8
         return policy::number_of(answer);
     };
     if out.len() < n {
-        return 13;
+        return codes::OUTPUT;
     }
     normal_term(words, out);
-    0
+    codes::ACCEPTED
 }

@@ -15,6 +15,7 @@ use Rattle.soda.specs.Words.{word, opKind, opWord, encode, fits, declared}
 use Rattle.soda.proofs.Bools.{and-split, and-join, so-lt, so-eq}
 use Rattle.soda.proofs.Terms.{size-pos}
 use Rattle.soda.proofs.Words.{encode-length, declared-fits}
+use Rattle.policy.specs.Codes.{WORD-COUNT, WORD, TERM, UNIT, COUNTS}
 use Rattle.policy.specs.Words.{kind, operand, operandOk, wordOk, decode}
 use Rattle.policy.specs.Reading.{countOk, lengthOk, isTerm, isFormed, unitsOf, readPolicy}
 use Rattle.policy.specs.Refusals.{_gives_, code}
@@ -151,7 +152,7 @@ module _ (users roles : ℕ) (ws : List ℕ) where
   accepted n m e = go (countOk users && countOk roles) (lengthOk (length ws)) (all (wordOk users roles) ws) (decode ws) refl refl refl refl e
     where
       number : Bool → Bool → Bool → Option Term → ℕ
-      number a b c x = code ((not a gives 5) ∷ (not b gives 1) ∷ (not c gives 2) ∷ (not (isTerm x) gives 3) ∷ (not (isFormed x) gives 4) ∷ [])
+      number a b c x = code ((not a gives COUNTS) ∷ (not b gives WORD-COUNT) ∷ (not c gives WORD) ∷ (not (isTerm x) gives TERM) ∷ (not (isFormed x) gives UNIT) ∷ [])
 
       never : (k : ℕ) → Refused k ≡ Accepted n m → (φ : Term) × Passed φ
       never k q = absurd (let z : _≡_ {A = ℕ} 0 1 = cc in omega arith)
@@ -159,16 +160,16 @@ module _ (users roles : ℕ) (ws : List ℕ) where
       go : (a b c : Bool) (x : Option Term)
           → (countOk users && countOk roles) ≡ a → lengthOk (length ws) ≡ b → all (wordOk users roles) ws ≡ c → decode ws ≡ x
           → cond (eqb (number a b c x) 0) (Accepted (length ws) (unitsOf x)) (Refused (number a b c x)) ≡ Accepted n m → (φ : Term) × Passed φ
-      go false b c x pa pb pc px q = never 5 q
-      go true false c x pa pb pc px q = never 1 q
-      go true true false x pa pb pc px q = never 2 q
-      go true true true none pa pb pc px q = never 3 q
+      go false b c x pa pb pc px q = never COUNTS q
+      go true false c x pa pb pc px q = never WORD-COUNT q
+      go true true false x pa pb pc px q = never WORD q
+      go true true true none pa pb pc px q = never TERM q
       go true true true (some φ) pa pb pc px q = last (wellFormed φ) refl q
         where
           last : (f : Bool) → wellFormed φ ≡ f
-              → cond (eqb (cond (not f) 4 0) 0) (Accepted (length ws) (marks unit φ)) (Refused (cond (not f) 4 0)) ≡ Accepted n m → (φ : Term) × Passed φ
+              → cond (eqb (cond (not f) UNIT 0) 0) (Accepted (length ws) (marks unit φ)) (Refused (cond (not f) UNIT 0)) ≡ Accepted n m → (φ : Term) × Passed φ
           last true pf r = (φ, record { counts = pa; long = pb; layout = pc; one = px; formed = pf })
-          last false pf r = never 4 r
+          last false pf r = never UNIT r
 
 pub decode-is-term : DecodeIsTerm
 decode-is-term = is-term

@@ -3,6 +3,7 @@ use mathlib.Core.Path.{_≡_, refl}
 use mathlib.Core.List.{List, [], _∷_, map}
 use Prim.Native.Nat.{ℕ}
 use lib.ListN.{replicate}
+use Rattle.policy.specs.Codes.{WORD-COUNT, WORD, TERM, UNIT, COUNTS}
 use Rattle.policy.specs.Reading.{readPolicy, metOf}
 use Rattle.policy.specs.declared.PolicyRead.{PolicyRead}
 use Rattle.policy.specs.declared.PolicyRead.the-variants.{Accepted, Refused}
@@ -37,27 +38,27 @@ cases =
     row 3 3 F (Accepted 10 724) 724
     -- 31 words, and 32, which are no term either
     ∷ row 1 1 long (Accepted 31 0x7fffffff) 0x7fffffff
-    ∷ row 1 1 (0x01000000 ∷ long) (Refused 1) 0
+    ∷ row 1 1 (0x01000000 ∷ long) (Refused WORD-COUNT) 0
     -- 5 before 1: counts out of range, and no word
-    ∷ row 17 3 [] (Refused 5) 0
-    ∷ row 3 0 [] (Refused 5) 0
-    ∷ row 16 16 [] (Refused 1) 0
+    ∷ row 17 3 [] (Refused COUNTS) 0
+    ∷ row 3 0 [] (Refused COUNTS) 0
+    ∷ row 16 16 [] (Refused WORD-COUNT) 0
     -- 1 before 2: 32 words out of the layout
-    ∷ row 3 3 (replicate 32 0) (Refused 1) 0
+    ∷ row 3 3 (replicate 32 0) (Refused WORD-COUNT) 0
     -- 2 before 3: bits 16 to 23, kind 0, kind 10, an operand, role 3, user 3, no user, each with a word left over
-    ∷ row 3 3 (0x01010000 ∷ 0x01000000 ∷ []) (Refused 2) 0
-    ∷ row 3 3 (0x00000000 ∷ 0x01000000 ∷ []) (Refused 2) 0
-    ∷ row 3 3 (0x0a000000 ∷ 0x01000000 ∷ []) (Refused 2) 0
-    ∷ row 3 3 (0x01000001 ∷ 0x01000000 ∷ []) (Refused 2) 0
-    ∷ row 3 3 (0x02000003 ∷ 0x01000000 ∷ []) (Refused 2) 0
-    ∷ row 3 3 (0x03000008 ∷ 0x01000000 ∷ []) (Refused 2) 0
-    ∷ row 3 3 (0x03000000 ∷ 0x01000000 ∷ []) (Refused 2) 0
+    ∷ row 3 3 (0x01010000 ∷ 0x01000000 ∷ []) (Refused WORD) 0
+    ∷ row 3 3 (0x00000000 ∷ 0x01000000 ∷ []) (Refused WORD) 0
+    ∷ row 3 3 (0x0a000000 ∷ 0x01000000 ∷ []) (Refused WORD) 0
+    ∷ row 3 3 (0x01000001 ∷ 0x01000000 ∷ []) (Refused WORD) 0
+    ∷ row 3 3 (0x02000003 ∷ 0x01000000 ∷ []) (Refused WORD) 0
+    ∷ row 3 3 (0x03000008 ∷ 0x01000000 ∷ []) (Refused WORD) 0
+    ∷ row 3 3 (0x03000000 ∷ 0x01000000 ∷ []) (Refused WORD) 0
     -- 3 before 4: plus over together with a word left over, and with the words running out
-    ∷ row 3 3 (0x05000000 ∷ 0x08000000 ∷ 0x01000000 ∷ 0x01000000 ∷ 0x01000000 ∷ []) (Refused 3) 0
-    ∷ row 3 3 (0x05000000 ∷ 0x08000000 ∷ 0x01000000 ∷ []) (Refused 3) 0
+    ∷ row 3 3 (0x05000000 ∷ 0x08000000 ∷ 0x01000000 ∷ 0x01000000 ∷ 0x01000000 ∷ []) (Refused TERM) 0
+    ∷ row 3 3 (0x05000000 ∷ 0x08000000 ∷ 0x01000000 ∷ []) (Refused TERM) 0
     -- 01's P12, plus over together; not over plus
-    ∷ row 3 3 (0x05000000 ∷ 0x08000000 ∷ 0x01000000 ∷ 0x01000000 ∷ []) (Refused 4) 12
-    ∷ row 3 3 (0x04000000 ∷ 0x05000000 ∷ 0x01000000 ∷ []) (Refused 4) 4
+    ∷ row 3 3 (0x05000000 ∷ 0x08000000 ∷ 0x01000000 ∷ 0x01000000 ∷ []) (Refused UNIT) 12
+    ∷ row 3 3 (0x04000000 ∷ 0x05000000 ∷ 0x01000000 ∷ []) (Refused UNIT) 4
     ∷ []
 
 computed :

@@ -17,13 +17,13 @@ use Rattle.soda.proofs.Words.{tag}
 use Rattle.policy.specs.Words.{kind, decode}
 use Rattle.policy.specs.Shapes.{isPlus, isOp}
 use Rattle.policy.specs.Scans.{putOf, ofKind, kindsOf, withoutOf}
-use Rattle.policy.specs.declared.Kinds.{Kinds}
+use Rattle.policy.specs.declared.KindMasks.{KindMasks}
 use Rattle.policy.proofs.Masks.{put-is, without-is}
 use Rattle.policy.proofs.Grammar.{Begins, begins1, begins2, begins3, begins4, begins5, beginsOp, begins-whole}
 
 -- ── the loop ──
 -- the masks with one word more, of kind k
-abbrev pub more : Kinds → ℕ → Kinds
+abbrev pub more : KindMasks → ℕ → KindMasks
 more m k = record {
   plus = putOf (m .plus) (eqb k 5);
   either = putOf (m .either) (eqb k 6);
@@ -39,7 +39,7 @@ module _ (w : ℕ) (ws : List ℕ) (short : length ws ≤ 31) where
   more-is : more (kindsOf ws) (kind w) ≡ kindsOf (w ∷ ws)
   more-is = λ i. record { plus = of-one 5 i; either = of-one 6 i; both = of-one 7 i; together = of-one 8 i; apart = of-one 9 i }
 
-pub step : (ws : List ℕ) (m : Kinds) (i j k : ℕ) → length ws ≤ 31 → i ≡ 1 + j → j < length ws → m ≡ kindsOf (drop i ws) → k ≡ kind (getD ws j 0)
+pub step : (ws : List ℕ) (m : KindMasks) (i j k : ℕ) → length ws ≤ 31 → i ≡ 1 + j → j < length ws → m ≡ kindsOf (drop i ws) → k ≡ kind (getD ws j 0)
     → more m k ≡ kindsOf (drop j ws)
 step ws m i j k short down inside p q =
     let e : i ≡ suc j = down ∙ one-add j in

@@ -1,3 +1,5 @@
+pub mod Codes
+pub mod Kinds
 pub mod Refusals
 pub mod Words
 pub mod Reading

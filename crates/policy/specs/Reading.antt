@@ -8,6 +8,7 @@ use lib.ListN.{length}
 use Rattle.soda.specs.Lists.{all}
 use Rattle.soda.specs.Terms.{Term, unit, wellFormed, marks}
 use Rattle.soda.specs.Tables.{metBits}
+use Rattle.policy.specs.Codes.{ACCEPTED, WORD-COUNT, WORD, TERM, UNIT, COUNTS}
 use Rattle.policy.specs.Refusals.{_gives_, code}
 use Rattle.policy.specs.Words.{wordOk, decode}
 use Rattle.policy.specs.declared.PolicyRead.{PolicyRead}
@@ -33,11 +34,11 @@ isFormed (some φ) = wellFormed φ
 -- 01's order: 5, 1, 2, 3, 4
 abbrev pub refusals : ℕ → ℕ → List ℕ → List (Bool × ℕ)
 refusals users roles ws =
-    (not (countOk users && countOk roles) gives 5)
-    ∷ (not (lengthOk (length ws)) gives 1)
-    ∷ (not (all (wordOk users roles) ws) gives 2)
-    ∷ (not (isTerm (decode ws)) gives 3)
-    ∷ (not (isFormed (decode ws)) gives 4)
+    (not (countOk users && countOk roles) gives COUNTS)
+    ∷ (not (lengthOk (length ws)) gives WORD-COUNT)
+    ∷ (not (all (wordOk users roles) ws) gives WORD)
+    ∷ (not (isTerm (decode ws)) gives TERM)
+    ∷ (not (isFormed (decode ws)) gives UNIT)
     ∷ []
 
 -- the mask of the words that begin unit terms
@@ -47,11 +48,11 @@ unitsOf (some φ) = marks unit φ
 
 -- the answer: the word count and that mask, or a number with nothing else
 abbrev pub answer : ℕ → List ℕ → PolicyRead
-answer k ws = cond (eqb k 0) (Accepted (length ws) (unitsOf (decode ws))) (Refused k)
+answer k ws = cond (eqb k ACCEPTED) (Accepted (length ws) (unitsOf (decode ws))) (Refused k)
 
 -- the number that an answer gives
 abbrev pub numberOf : PolicyRead → ℕ
-numberOf (Accepted n units) = 0
+numberOf (Accepted n units) = ACCEPTED
 numberOf (Refused k) = k
 
 unfoldable pub readPolicy : ℕ → ℕ → List ℕ → PolicyRead

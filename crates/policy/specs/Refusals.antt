@@ -2,6 +2,7 @@
 use mathlib.Core.Bool.{Bool, cond}
 use mathlib.Core.List.{List, [], _∷_}
 use Prim.Native.Nat.{ℕ}
+use Rattle.policy.specs.Codes.{ACCEPTED}
 
 -- a refusal: when it applies, and its number
 infixl 20 _gives_
@@ -10,5 +11,5 @@ applies gives number = (applies, number)
 
 -- the number of the first refusal that applies; 0, acceptance, if none does
 abbrev pub code : List (Bool × ℕ) → ℕ
-code [] = 0
+code [] = ACCEPTED
 code (r ∷ l) = cond (r .0) (r .1) (code l)

@@ -9,23 +9,24 @@ use lib.Dec.{leb, ltb, eqb}
 use Rattle.soda.specs.Bits.{bit, number}
 use Rattle.soda.specs.Terms.{Term, unit, wellFormed, size, marks}
 use Rattle.soda.specs.Tables.{metBits}
+use Rattle.policy.specs.Kinds.{EVERYONE, ROLE, NOT, PLUS, EITHER, BOTH, TOGETHER, APART}
 use Rattle.policy.specs.Words.{kind, decode}
 use Rattle.policy.specs.Shapes.{rightSides, padded}
 use Rattle.policy.specs.declared.Stack.{Stack}
 use Rattle.policy.specs.declared.Judged.{Judged}
-use Rattle.policy.specs.declared.Kinds.{Kinds}
+use Rattle.policy.specs.declared.KindMasks.{KindMasks}
 
 -- a kind of 01's table
 abbrev pub known : ℕ → Bool
-known k = leb 1 k && leb k 9
+known k = leb EVERYONE k && leb k APART
 
 -- whether the user meets a term of one word, of kind k with operand x
 abbrev pub meetsLeaf : ℕ → ℕ → ℕ → ℕ → Bool
-meetsLeaf k x u h = cond (eqb k 1) (not (eqb h 0)) (cond (eqb k 2) (bit x h) (bit u x && not (eqb h 0)))
+meetsLeaf k x u h = cond (eqb k EVERYONE) (not (eqb h 0)) (cond (eqb k ROLE) (bit x h) (bit u x && not (eqb h 0)))
 
 -- whether the user meets a term of kind k with two sides, from whether each side is met
 abbrev pub meetsSides : ℕ → Bool → Bool → Bool
-meetsSides k a b = (eqb k 6 && (a || b)) || (eqb k 7 && (a && b))
+meetsSides k a b = (eqb k EITHER && (a || b)) || (eqb k BOTH && (a && b))
 
 -- how many words a term is; 0 for none
 abbrev pub extent : Option Term → ℕ
@@ -51,11 +52,11 @@ abbrev pub leafOf : Stack → Bool → Stack
 leafOf s m = placedOf s 0 true m (s .formed)
 
 abbrev pub overOf : Stack → ℕ → Stack
-overOf s k = placedOf s 1 (eqb k 4 && bit 0 (s .unit)) (eqb k 4 && not (bit 0 (s .met))) (bit 0 (s .unit) && s .formed)
+overOf s k = placedOf s 1 (eqb k NOT && bit 0 (s .unit)) (eqb k NOT && not (bit 0 (s .met))) (bit 0 (s .unit) && s .formed)
 
 abbrev pub besideOf : Stack → ℕ → Stack
 besideOf s k =
-    placedOf s 2 (ltb k 8 && (bit 0 (s .unit) && bit 1 (s .unit))) (meetsSides k (bit 0 (s .met)) (bit 1 (s .met))) (s .formed)
+    placedOf s 2 (ltb k TOGETHER && (bit 0 (s .unit) && bit 1 (s .unit))) (meetsSides k (bit 0 (s .met)) (bit 1 (s .met))) (s .formed)
 
 -- by the sides of the word, of kind k with operand x
 abbrev pub stepOf : ℕ → ℕ → Stack → ℕ → ℕ → ℕ → Stack
@@ -70,8 +71,8 @@ judgedIn u h (some φ) = record { formed = wellFormed φ; units = marks unit φ;
 abbrev pub ofKind : ℕ → List ℕ → ℕ
 ofKind k ws = number (map (λ w. eqb (kind w) k) ws)
 
-abbrev pub kindsOf : List ℕ → Kinds
-kindsOf ws = record { plus = ofKind 5 ws; either = ofKind 6 ws; both = ofKind 7 ws; together = ofKind 8 ws; apart = ofKind 9 ws }
+abbrev pub kindsOf : List ℕ → KindMasks
+kindsOf ws = record { plus = ofKind PLUS ws; either = ofKind EITHER ws; both = ofKind BOTH ws; together = ofKind TOGETHER ws; apart = ofKind APART ws }
 
 abbrev pub withoutOf : ℕ → ℕ → ℕ
 withoutOf m n = m - bitAnd m n

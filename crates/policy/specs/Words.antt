@@ -6,6 +6,7 @@ use Prim.Native.Nat.{ℕ, _/_, _%_, _^_}
 use lib.Dec.{leb, ltb, eqb}
 use lib.ListN.{getD}
 use Rattle.soda.specs.Terms.{Op, either, both, together, apart, Term, everyone, role, set, ¬ᵗ_, _⁺, bin}
+use Rattle.policy.specs.Kinds.{EVERYONE, ROLE, SET, APART}
 
 -- the kind sits in bits 24 to 31, the operand in bits 0 to 15
 abbrev pub kind : ℕ → ℕ
@@ -21,15 +22,15 @@ sides k = getD (0 ∷ 0 ∷ 0 ∷ 0 ∷ 1 ∷ 1 ∷ 2 ∷ 2 ∷ 2 ∷ 2 ∷ []) 
 -- the operand names only what is declared: a role of `roles`, a set of `users` that is not empty; else it is 0
 abbrev pub operandOk : ℕ → ℕ → ℕ → ℕ → Bool
 operandOk users roles k x =
-    cond (eqb k 2) (ltb x roles)
-    (cond (eqb k 3) (not (eqb x 0) && ltb x (2 ^ users))
+    cond (eqb k ROLE) (ltb x roles)
+    (cond (eqb k SET) (not (eqb x 0) && ltb x (2 ^ users))
     (eqb x 0))
 
 -- a word is in the layout: kinds 1 to 9, bits 16 to 23 zero, an operand as above (01, number 2)
 abbrev pub wordOk : ℕ → ℕ → ℕ → Bool
 wordOk users roles w =
     eqb (w / 2 ^ 16 % 2 ^ 8) 0
-    && (leb 1 (kind w) && (leb (kind w) 9 && operandOk users roles (kind w) (operand w)))
+    && (leb EVERYONE (kind w) && (leb (kind w) APART && operandOk users roles (kind w) (operand w)))
 
 -- 01's table of kinds; kind 0 and those above 9 are none of them
 pub data Kind : Type 0 where

@@ -11,6 +11,9 @@ ghost use Rattle.policy.specs.Reading.{countOk, lengthOk, numberOf, read
 ghost use Rattle.policy.specs.Shapes.{shapeIn, shapeOf};
 ghost use Rattle.policy.specs.Scans.{known, meetsLeaf, extent, putOf, placedOf, leafOf, overOf, besideOf, stepOf, judgedIn, kindsOf, withoutOf, RightsOf};
 
+pub mod codes;
+pub mod kinds;
+
 // A policy read (document 01): its word count and the mask of the words that begin unit terms, or a number.
 pub enum PolicyRead {
     Accepted { words: usize, units: u32 },
@@ -49,7 +52,7 @@ struct Judged {
 }
 
 // For each row of the table but "unit", the words of its kind.
-struct Kinds {
+struct KindMasks {
     plus: u32,
     either: u32,
     both: u32,
@@ -78,7 +81,7 @@ const NOTHING: Judged = Judged {
 };
 
 // No word yet.
-const NO_KINDS: Kinds = Kinds {
+const NO_KINDS: KindMasks = KindMasks {
     plus: 0,
     either: 0,
     both: 0,
@@ -111,7 +114,7 @@ pub fn sides_of(k: usize) -> u8
 fn is_known(k: usize) -> bool
     ensures { λ r. ⌜ r ≡ known k ⌝ }
 {
-    (1 <= k) & (k <= 9)
+    (kinds::EVERYONE <= k) & (k <= kinds::APART)
 }
 
 // Whether i is in a set: its bit i.
@@ -140,10 +143,10 @@ fn operand_ok(users: u8, roles: u8, k: usize, x: u32) -> bool
     requires { ⌜ users ≤ 16 ⌝ }
     ensures { λ r. ⌜ r ≡ operandOk users roles k x ⌝ }
 {
-    if k == 2 {
+    if k == kinds::ROLE {
         return x < roles as u32;
     }
-    if k == 3 {
+    if k == kinds::SET {
         return (x != 0) & (x < 1u32 << users);
     }
     x == 0
@@ -156,7 +159,7 @@ fn word_ok(users: u8, roles: u8, w: u32) -> bool
 {
     let k = kind_of(w);
     let named = operand_ok(users, roles, k, operand_of(w));
-    (((w >> 16) & 0xff) == 0) & ((1 <= k) & ((k <= 9) & named))
+    (((w >> 16) & 0xff) == 0) & ((kinds::EVERYONE <= k) & ((k <= kinds::APART) & named))
 }
 
 // Whether every word is in the layout and names only what is declared.
@@ -178,10 +181,10 @@ fn words_ok(users: u8, roles: u8, words: &[u32]) -> bool
 fn meets_leaf(k: usize, x: u32, user: u8, held: u16) -> bool
     ensures { λ r. ⌜ r ≡ meetsLeaf k x user held ⌝ }
 {
-    if k == 1 {
+    if k == kinds::EVERYONE {
         return held != 0;
     }
-    if k == 2 {
+    if k == kinds::ROLE {
         return has_bit(held as u32, x);
     }
     has_bit(x, user as u32) & (held != 0)
@@ -256,8 +259,8 @@ fn over(s: Stack, k: usize) -> Stack
     ensures { λ r. ⌜ r ≡ overOf s k ⌝ }
 {
     let side = has_bit(s.unit, 0);
-    let unit = (k == 4) & side;
-    let met = (k == 4) & !has_bit(s.met, 0);
+    let unit = (k == kinds::NOT) & side;
+    let met = (k == kinds::NOT) & !has_bit(s.met, 0);
     placed(s, 1, unit, met, side & s.formed)
 }
 
@@ -267,10 +270,10 @@ fn beside(s: Stack, k: usize) -> Stack
     requires { ⌜ s .terms ≤ 31 ⌝ }
     ensures { λ r. ⌜ r ≡ besideOf s k ⌝ }
 {
-    let unit = (k < 8) & (has_bit(s.unit, 0) & has_bit(s.unit, 1));
+    let unit = (k < kinds::TOGETHER) & (has_bit(s.unit, 0) & has_bit(s.unit, 1));
     let a = has_bit(s.met, 0);
     let b = has_bit(s.met, 1);
-    let met = ((k == 6) & (a | b)) | ((k == 7) & (a & b));
+    let met = ((k == kinds::EITHER) & (a | b)) | ((k == kinds::BOTH) & (a & b));
     placed(s, 2, unit, met, s.formed)
 }
 
@@ -320,7 +323,7 @@ fn judge(words: &[u32], user: u8, held: u16) -> Judged
 }
 
 // The words of each kind.
-fn kind_masks(words: &[u32]) -> Kinds
+fn kind_masks(words: &[u32]) -> KindMasks
     requires { ⌜ length (now words) ≤ 31 ⌝ }
     ensures { λ r. ⌜ r ≡ kindsOf (now (words .entry)) ⌝ }
 {
@@ -329,12 +332,12 @@ fn kind_masks(words: &[u32]) -> Kinds
     while 0 < i {
         i -= 1;
         let k = kind_of(words[i]);
-        m = Kinds {
-            plus: put(m.plus, k == 5),
-            either: put(m.either, k == 6),
-            both: put(m.both, k == 7),
-            together: put(m.together, k == 8),
-            apart: put(m.apart, k == 9),
+        m = KindMasks {
+            plus: put(m.plus, k == kinds::PLUS),
+            either: put(m.either, k == kinds::EITHER),
+            both: put(m.both, k == kinds::BOTH),
+            together: put(m.together, k == kinds::TOGETHER),
+            apart: put(m.apart, k == kinds::APART),
         };
     }
     m
@@ -390,20 +393,20 @@ pub fn read(users: u8, roles: u8, words: &[u32]) -> PolicyRead
     ensures { λ r. ⌜ r ≡ readPolicy users roles (now (words .entry)) ⌝ }
 {
     if !counts_ok(users, roles) {
-        return PolicyRead::Refused(5);
+        return PolicyRead::Refused(codes::COUNTS);
     }
     if !length_ok(words.len()) {
-        return PolicyRead::Refused(1);
+        return PolicyRead::Refused(codes::WORD_COUNT);
     }
     if !words_ok(users, roles, words) {
-        return PolicyRead::Refused(2);
+        return PolicyRead::Refused(codes::WORD);
     }
     if scan(words) as usize != words.len() {
-        return PolicyRead::Refused(3);
+        return PolicyRead::Refused(codes::TERM);
     }
     let t = judge(words, 0, 0);
     if !t.formed {
-        return PolicyRead::Refused(4);
+        return PolicyRead::Refused(codes::UNIT);
     }
     PolicyRead::Accepted {
         words: words.len(),
@@ -416,7 +419,7 @@ pub fn number_of(answer: PolicyRead) -> u8
     ensures { λ r. ⌜ r ≡ numberOf answer ⌝ }
 {
     match answer {
-        PolicyRead::Accepted { words: _, units: _ } => 0,
+        PolicyRead::Accepted { words: _, units: _ } => codes::ACCEPTED,
         PolicyRead::Refused(number) => number,
     }
 }

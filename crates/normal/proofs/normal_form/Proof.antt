@@ -12,6 +12,7 @@ use Rattle.soda.specs.Terms.{size}
 use Rattle.soda.specs.Words.{encode}
 use Rattle.soda.proofs.Bools.{by-test}
 use Rattle.soda.proofs.Words.{encode-length, declared-fits}
+use Rattle.policy.specs.Codes.{ACCEPTED, OUTPUT}
 use Rattle.policy.specs.Refusals.{code}
 use Rattle.policy.specs.Words.{decode}
 use Rattle.policy.specs.Reading.{refusals, unitsOf, numberOf, readPolicy}
@@ -28,7 +29,7 @@ use Rattle.normal.proofs.normal_form.Tie as tie
 -- ── the number ──
 -- the number, from the reader's answer and the output's length
 abbrev number : PolicyRead → ℕ → ℕ
-number (Accepted m units) n = cond (ltb n m) 13 0
+number (Accepted m units) n = cond (ltb n m) OUTPUT ACCEPTED
 number (Refused k) n = k
 
 module _ (users roles : ℕ) (ws out : List ℕ) where
@@ -38,7 +39,7 @@ module _ (users roles : ℕ) (ws out : List ℕ) where
   is-number : (n : ℕ) → normalCode users roles ws n ≡ number (readPolicy users roles ws) n
   unfolding normalRefusals readPolicy
   is-number n =
-      let m : Refusals = (ltb n (length ws), 13) ∷ [] in
+      let m : Refusals = (ltb n (length ws), OUTPUT) ∷ [] in
       by-test (eqb k 0)
       (λ e. code-behind (refusals users roles ws) m (clear (refusals users roles ws) refl (eqb-true k 0 e)) ∙ rw e)
       λ e. code-front (refusals users roles ws) m (eqb-false k 0 e) ∙ rw e
@@ -57,8 +58,8 @@ module _ (users roles : ℕ) (ws out : List ℕ) where
   refused : (j : ℕ) → readPolicy users roles ws ≡ Refused j → (j ≡ normalCode users roles ws (length out)) × (out ≡ normalOut users roles ws out)
   refused j e = left j (is-number (length out) ∙ ap (λ (r : PolicyRead). number r (length out)) e) (refused-number j e)
 
-  no-room : (n m : ℕ) → readPolicy users roles ws ≡ Accepted n m → length out < n → (13 ≡ normalCode users roles ws (length out)) × (out ≡ normalOut users roles ws out)
-  no-room n m e h = left 13 (is-number (length out) ∙ rw (e, lt-ltb (length out) n h)) refl
+  no-room : (n m : ℕ) → readPolicy users roles ws ≡ Accepted n m → length out < n → (OUTPUT ≡ normalCode users roles ws (length out)) × (out ≡ normalOut users roles ws out)
+  no-room n m e h = left OUTPUT (is-number (length out) ∙ rw (e, lt-ltb (length out) n h)) refl
 
   -- an accepted policy, and room for it
   module _ (n m : ℕ) (e : readPolicy users roles ws ≡ Accepted n m) (h : n ≤ length out) where

@@ -9,6 +9,7 @@ use lib.Dec.{eqb}
 use borrow.Author.Needs.{needs}
 use borrow.Author.Tests.{eq-eqb, ne-eqb, not-true, not-false}
 use Rattle.soda.specs.Terms.{Term}
+use Rattle.policy.specs.Codes.{TERM, UNIT}
 use Rattle.policy.specs.Words.{decode}
 use Rattle.policy.specs.Reading.{countOk, lengthOk, isTerm, isFormed, unitsOf, answer, readPolicy}
 use Rattle.policy.specs.Refusals.{_gives_, code}
@@ -46,7 +47,7 @@ returns-3 c =
 -- the two tests that are left
 late : (c : tie.Else3) → let a = c .before .before .before .before .before .before .before .args in
     let x = decode (a .words .now) in
-    readPolicy (a .users) (a .roles) (a .words .now) ≡ answer (code ((not (isTerm x) gives 3) ∷ (not (isFormed x) gives 4) ∷ [])) (a .words .now)
+    readPolicy (a .users) (a .roles) (a .words .now) ≡ answer (code ((not (isTerm x) gives TERM) ∷ (not (isFormed x) gives UNIT) ∷ [])) (a .words .now)
 unfolding readPolicy
 late c =
     let ok = sym (c .before .words-ok .ensures) ∙ not-false (c .before .words-ok .result) (c .if3 .left) in

@@ -14,7 +14,7 @@ use Rattle.policy.specs.Reading.{lengthOk}
 use Rattle.policy.specs.Shapes.{blankShape, shapeIn, shapeOf}
 use Rattle.policy.specs.Scans.{judgedIn, kindsOf, withoutOf, RightsOf}
 use Rattle.policy.specs.declared.Judged.{Judged}
-use Rattle.policy.specs.declared.Kinds.{Kinds}
+use Rattle.policy.specs.declared.KindMasks.{KindMasks}
 use Rattle.policy.specs.declared.Shape.{Shape}
 use Rattle.policy.proofs.Grammar.{length-begins, begins-whole}
 use Rattle.policy.proofs.Scanning.{length-most}
@@ -22,7 +22,7 @@ use Rattle.policy.proofs.Kinded.{plus-is, op-is}
 use Rattle.policy.proofs.shape_of.Statement.{statement}
 use Rattle.policy.proofs.shape_of.Tie as tie
 
-abbrev shaped : ℕ → Judged → Kinds → List ℕ → Shape
+abbrev shaped : ℕ → Judged → KindMasks → List ℕ → Shape
 shaped n t m right = record {
   words = n;
   units = t .units;
