@@ -22,7 +22,7 @@ use Rattle.soda.proofs.EqualForms.{normal-keeps, normal-is-normal}
 use Rattle.policy.specs.Words.{kind, sides}
 use Rattle.normal.specs.Merging.{span, lead, operandOf, Operand, Chain, last, more}
 use Rattle.policy.proofs.Grammar.{Begins, begins1, begins2, begins3, begins4, begins5, beginsOp}
-use Rattle.policy.proofs.Accepted.{begins-encode}
+use Rattle.policy.proofs.Encoding.{begins-encode}
 
 -- ── word counts ──
 few : (l : List ℕ) → All (λ (n : ℕ). n ≤ 2) l → (k : ℕ) → getD l k 0 ≤ 2

@@ -5,5 +5,6 @@ pub mod Scanning
 pub mod Stacks
 pub mod Kinded
 pub mod Ends
+pub mod Encoding
 pub mod Accepted
 pub mod Examples

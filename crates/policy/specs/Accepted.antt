@@ -1,16 +1,50 @@
 -- What is proved of reading: it is the inverse of `encode`. Statements only.
 use mathlib.Core.Path.{_≡_}
 use mathlib.Core.Logic.{_↔_}
-use mathlib.Core.Bool.{So, _&&_}
+use mathlib.Core.Bool.{false, So, _&&_}
 use mathlib.Core.List.{List}
 use mathlib.Core.Option.{some}
 use Prim.Native.Nat.{ℕ, _≤_}
+use lib.ListN.{length}
+use Rattle.soda.specs.Lists.{all}
 use Rattle.soda.specs.Terms.{Term, unit, wellFormed, size, marks}
-use Rattle.soda.specs.Words.{encode, declared}
-use Rattle.policy.specs.Words.{decode}
-use Rattle.policy.specs.Reading.{countOk, readPolicy}
-use Rattle.policy.specs.declared.PolicyRead.the-variants.{Accepted}
+use Rattle.soda.specs.Words.{encode, fits, declared}
+use Rattle.policy.specs.Codes.{TERM, UNIT}
+use Rattle.policy.specs.Words.{wordOk, decode}
+use Rattle.policy.specs.Reading.{countOk, lengthOk, readPolicy}
+use Rattle.policy.specs.declared.PolicyRead.the-variants.{Accepted, Refused}
 
+-- ── what the words are ──
+-- The words are those of φ, whose operands have their 16 bits.
+pub record WordsOf (φ : Term) (ws : List ℕ) : Type 0 where
+  pub written : ws ≡ encode φ
+  pub fit : So (fits φ)
+
+-- Words in the layout, however many, decode to φ exactly when they are the words of φ, well formed or not.
+abbrev pub DecodeIsEncode : Type 0
+DecodeIsEncode =
+    (users roles : ℕ) (ws : List ℕ) (φ : Term) → So (all (wordOk users roles) ws) → (decode ws ≡ some φ) ↔ WordsOf φ ws
+
+-- ── 3 and 4 ──
+-- none of 5, 1 and 2 applies
+pub record InLayout (users roles : ℕ) (ws : List ℕ) : Type 0 where
+  pub counts : So (countOk users && countOk roles)
+  pub long : So (lengthOk (length ws))
+  pub layout : So (all (wordOk users roles) ws)
+
+-- Of such words 3 is given exactly when they are the words of no term ..
+abbrev pub ThreeIsNoTerm : Type 0
+ThreeIsNoTerm =
+    (users roles : ℕ) (ws : List ℕ)
+    → (readPolicy users roles ws ≡ Refused TERM) ↔ (InLayout users roles ws × ((φ : Term) → WordsOf φ ws → ⊥))
+
+-- .. and 4 exactly when they are the words of a term that is not well formed.
+abbrev pub FourIsNotFormed : Type 0
+FourIsNotFormed =
+    (users roles : ℕ) (ws : List ℕ)
+    → (readPolicy users roles ws ≡ Refused UNIT) ↔ ((φ : Term) × InLayout users roles ws × WordsOf φ ws × (wellFormed φ ≡ false))
+
+-- ── accepted policies ──
 -- The words are those of φ, a well-formed term with declared roles and users, no longer than a policy.
 pub record IsPolicy (users roles : ℕ) (ws : List ℕ) (φ : Term) : Type 0 where
   pub counts : So (countOk users && countOk roles)
