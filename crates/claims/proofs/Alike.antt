@@ -14,8 +14,7 @@ use Rattle.soda.proofs.Bools.{not-so, so-lt}
 use Rattle.soda.proofs.Notes.{noted-is-meant}
 use Rattle.soda.proofs.Joins.{steps-keep-judgement}
 use Rattle.policy.specs.Refusals.{code}
-use Rattle.policy.specs.Words.{decode}
-use Rattle.workspace.specs.Workspace.{termOf}
+use Rattle.policy.specs.Words.{decode, termOf}
 use Rattle.monitor.specs.declared.Instance.{Instance}
 use Rattle.monitor.specs.declared.Event.{Event as Request}
 use Rattle.monitor.specs.declared.Event.the-variants.{Acts, Grants, Revokes, Closes, Malformed}

@@ -18,12 +18,11 @@ use Rattle.soda.proofs.Words.{encode-length}
 use Rattle.soda.proofs.WordSteps.{words-related}
 use Rattle.soda.proofs.EqualForms.{same-words-is-word-steps, normal-keeps, declared-fits}
 use Rattle.policy.specs.Refusals.{code}
-use Rattle.policy.specs.Words.{decode}
+use Rattle.policy.specs.Words.{decode, termOf}
 use Rattle.policy.specs.Reading.{refusals, unitsOf, answer, readPolicy}
 use Rattle.normal.specs.NormalForms.{normalIn, normalWords, normalRefusals, normalOut}
 use Rattle.policy.specs.Accepted.{IsPolicy}
 use Rattle.policy.proofs.Accepted.{read-is-encode, decode-is-term}
-use Rattle.workspace.specs.Workspace.{termOf}
 use Rattle.claims.specs.Runs.{opened}
 use Rattle.claims.specs.EqualForms.{IsAccepted, normal, EqualForms}
 use Rattle.policy.proofs.Refusals.{clear, code-behind}

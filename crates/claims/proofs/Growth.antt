@@ -10,6 +10,7 @@ use lib.Dec.{leb, ltb, eqb}
 use lib.ListN.{length, getD, take, set as put, replicate, length-set}
 use lib.Seq.{take-append-seam, take-set-lt, getD-take}
 use borrow.Author.Tests.{leb-false}
+use Rattle.soda.specs.Lists.{padded}
 use Rattle.soda.specs.Bits.{bit, setBit, clearBit}
 use Rattle.soda.specs.Terms.{Term, wellFormed}
 use Rattle.soda.specs.Roles.{UA, roles, grant, revoke}
@@ -19,10 +20,8 @@ use Rattle.soda.proofs.Bools.{never, not-so, and-split, and-join, so-lt, lt-so}
 use Rattle.soda.proofs.Tables.{bitTable-map, empty-set}
 use Rattle.soda.proofs.Traces.{executed-append}
 use Rattle.policy.specs.Refusals.{code}
-use Rattle.policy.specs.Words.{decode}
+use Rattle.policy.specs.Words.{decode, termOf}
 use Rattle.policy.specs.Reading.{lengthOk, isTerm, isFormed, metIn, metOf}
-use Rattle.policy.specs.Shapes.{padded}
-use Rattle.workspace.specs.Workspace.{termOf}
 use Rattle.workspace.specs.declared.Action.{Action as Taken}
 use Rattle.monitor.specs.declared.Instance.{Instance}
 use Rattle.monitor.specs.declared.Event.{Event as Request}

@@ -13,9 +13,8 @@ use Rattle.soda.specs.Traces.{execution}
 use Rattle.soda.proofs.Bools.{never}
 use Rattle.soda.proofs.Accuracy.{satisfied-is-users, map-map}
 use Rattle.policy.specs.Refusals.{_gives_}
-use Rattle.policy.specs.Words.{decode}
+use Rattle.policy.specs.Words.{decode, termOf}
 use Rattle.policy.specs.Reading.{metIn}
-use Rattle.workspace.specs.Workspace.{termOf}
 use Rattle.monitor.specs.declared.Verdict.{Verdict}
 use Rattle.monitor.specs.declared.Verdict.the-variants.{Yes, No, Refused}
 use Rattle.monitor.specs.Instances.{isZero, openRefusals, openCode}

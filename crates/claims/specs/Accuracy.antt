@@ -11,8 +11,7 @@ use Rattle.soda.specs.Multisets.{multiset, SatM}
 use Rattle.soda.specs.Traces.{Trace, businessOnly, users, SatT}
 use Rattle.soda.specs.Csp.{Accepts}
 use Rattle.soda.specs.Processes.{Symbol, event, done, body, SOD}
-use Rattle.policy.specs.Words.{decode}
-use Rattle.workspace.specs.Workspace.{termOf}
+use Rattle.policy.specs.Words.{decode, termOf}
 use Rattle.monitor.specs.declared.Instance.{Instance}
 use Rattle.monitor.specs.declared.Event.the-variants.{Closes}
 use Rattle.monitor.specs.declared.Status.the-variants.{Complete}

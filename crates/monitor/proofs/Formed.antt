@@ -9,12 +9,12 @@ use lib.ListN.{length, drop, length-take}
 use borrow.Author.Tests.{leb-true, le-leb, not-false}
 use Rattle.soda.specs.Lists.{all}
 use Rattle.soda.proofs.Bools.{and-split, and-join, so-eq, eq-so}
-use Rattle.policy.specs.Refusals.{_gives_}
+use Rattle.policy.specs.Refusals.{_gives_, Clear}
 use Rattle.policy.specs.Words.{decode}
 use Rattle.policy.specs.Reading.{countOk, lengthOk, isTerm, isFormed, refusals, unitsOf}
 use Rattle.monitor.specs.declared.Instance.{Instance}
 use Rattle.monitor.specs.Instances.{rowsOk, openRefusals, openCode, policyOf, rowsOf, takenOf, isZero, isIdle, actionOk, isOpenable, isTakenOk, isTidy, wellFormed}
-use Rattle.policy.proofs.Refusals.{Clear, clear, clear-front, clear-behind}
+use Rattle.policy.proofs.Refusals.{clear, clear-front, clear-behind}
 
 -- a policy that is read
 pub record Readable (users roles : ℕ) (words : List ℕ) : Type 0 where

@@ -8,13 +8,13 @@ use lib.Dec.{eqb}
 use lib.ListN.{length}
 use borrow.Author.Tests.{eqb-true, eqb-false, ne-eqb}
 use Rattle.soda.proofs.Bools.{by-test}
-use Rattle.policy.specs.Refusals.{_gives_, code}
+use Rattle.policy.specs.Refusals.{_gives_, code, Clear}
 use Rattle.policy.specs.Words.{decode}
 use Rattle.policy.specs.Reading.{refusals, unitsOf, readPolicy}
 use Rattle.policy.specs.declared.PolicyRead.{PolicyRead}
 use Rattle.policy.specs.declared.PolicyRead.the-variants.{Accepted, Refused}
 use Rattle.monitor.specs.Instances.{blank, rowsOk, openRefusals, openCode, fresh, opening}
-use Rattle.policy.proofs.Refusals.{Clear, clear, code-front, code-behind}
+use Rattle.policy.proofs.Refusals.{clear, code-front, code-behind}
 
 module _ (users roles : ℕ) (words : List ℕ) where
   -- what each answer of the read says

@@ -13,11 +13,11 @@ use borrow.Author.Tests.{ne-eqb}
 use Rattle.soda.specs.Lists.{all}
 use Rattle.soda.specs.Terms.{Term}
 use Rattle.soda.proofs.Splits.{all-map}
-use Rattle.policy.specs.Refusals.{_gives_, code}
-use Rattle.policy.specs.Words.{decode}
+use Rattle.policy.specs.Refusals.{Refusals, _gives_, code}
+use Rattle.policy.specs.Words.{decode, termOf}
 use Rattle.policy.specs.Reading.{metOf}
 use Rattle.workspace.specs.declared.Action.{Action}
-use Rattle.workspace.specs.Workspace.{termOf, filled}
+use Rattle.workspace.specs.Workspace.{filled}
 use Rattle.monitor.specs.declared.Instance.{Instance}
 use Rattle.monitor.specs.declared.Verdict.{Verdict}
 use Rattle.monitor.specs.declared.Verdict.the-variants.{Yes, No, Refused}
@@ -25,7 +25,7 @@ use Rattle.monitor.specs.Instances.{isZero, openRefusals, openCode, fres
 use Rattle.monitor.specs.Events.{satisfies}
 use Rattle.monitor.specs.MultisetTest.{total, listed, notedBy, testRefusals, testCode, verdict, Numbered}
 use Rattle.monitor.specs.Calls.{Fillable, adding}
-use Rattle.policy.proofs.Refusals.{Refusals, clear, code-front, code-behind}
+use Rattle.policy.proofs.Refusals.{clear, code-front, code-behind}
 use Rattle.monitor.proofs.Formed.{Readable, words-few}
 use Rattle.monitor.proofs.Fillable.{fillable}
 use Rattle.monitor.proofs.Adding.{adding-number, adding-words, adding-policy, adding-taken, listed-length, listed-below}

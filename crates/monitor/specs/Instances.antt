@@ -6,13 +6,11 @@ use lib.Bits.{bitAnd}
 use lib.Dec.{leb, ltb, eqb}
 use lib.ListN.{length, getD, take, drop, set as put, replicate}
 use Rattle.soda.specs.Bits.{setBit, clearBit}
-use Rattle.soda.specs.Lists.{all}
+use Rattle.soda.specs.Lists.{all, padded}
 use Rattle.soda.specs.Terms.{Term}
 use Rattle.policy.specs.Refusals.{_gives_, code}
-use Rattle.policy.specs.Words.{decode}
+use Rattle.policy.specs.Words.{decode, termOf}
 use Rattle.policy.specs.Reading.{refusals, unitsOf, metOf}
-use Rattle.policy.specs.Shapes.{padded}
-use Rattle.workspace.specs.Workspace.{termOf}
 use Rattle.workspace.specs.declared.Action.{Action}
 use Rattle.monitor.specs.declared.Instance.{Instance}
 use Rattle.monitor.specs.declared.Answer.{Answer}

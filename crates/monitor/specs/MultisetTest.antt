@@ -8,9 +8,9 @@ use lib.ListN.{length, getD, drop, replicate}
 use Rattle.soda.specs.Lists.{all}
 use Rattle.soda.specs.Multisets.{multiset}
 use Rattle.policy.specs.Refusals.{_gives_, code}
-use Rattle.policy.specs.Words.{decode}
+use Rattle.policy.specs.Words.{decode, termOf}
 use Rattle.policy.specs.Reading.{metOf}
-use Rattle.workspace.specs.Workspace.{filled, termOf}
+use Rattle.workspace.specs.Workspace.{filled}
 use Rattle.workspace.specs.declared.Action.{Action}
 use Rattle.monitor.specs.declared.Verdict.{Verdict}
 use Rattle.monitor.specs.declared.Verdict.the-variants.{Yes, No, Refused}

@@ -2,8 +2,8 @@
 ghost use mathlib.Core.Path.{_≡_};
 ghost use Prim.Native.Nat.{_≤_, _<_};
 ghost use lib.ListN.{length};
+ghost use Rattle.soda.specs.Lists.{padded};
 ghost use Rattle.soda.specs.Bits.{setBit, clearBit};
-ghost use Rattle.policy.specs.Shapes.{padded};
 ghost use Rattle.monitor.specs.Instances.{rowsOk};
 
 // The row with this role.

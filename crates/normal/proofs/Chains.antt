@@ -10,19 +10,20 @@ use lib.Dec.{eqb}
 use lib.ListN.{length, getD, take, drop, length-append, length-take, length-drop, List·getD-append}
 use lib.Seq.{take-at, drop-append-seam}
 use borrow.Author.Tests.{eq-eqb, eqb-false, ne-eqb, le-ltb}
-use Rattle.soda.specs.Terms.{Op, either, both, together, apart, Term, everyone, role, set, ¬ᵗ_, _⁺, bin, sameOp, size}
+use Rattle.soda.specs.Lists.{merge}
+use Rattle.soda.specs.Terms.{Op, Term, everyone, role, set, ¬ᵗ_, _⁺, bin, sameOp, size}
 use Rattle.soda.specs.Words.{opKind, opWord, encode, fits, wordsLe, termLe}
 use Rattle.soda.specs.Normal.{operands, chain, normalForm}
 use Rattle.soda.proofs.Bools.{by-test, and-split, so-lt}
-use Rattle.soda.proofs.Sorting.{All, all-append, merge}
+use Rattle.soda.proofs.Sorting.{All, all-append}
 use Rattle.soda.proofs.Terms.{size-pos}
-use Rattle.soda.proofs.Words.{encode-length, words-trans, compare-in-place}
-use Rattle.soda.proofs.Normal.{by-operands, operands-same, parts, parts-bin}
+use Rattle.soda.proofs.Words.{op-high, same-kind, encode-length, words-trans, compare-in-place}
+use Rattle.soda.proofs.Normal.{by-operands, operands-some, parts, parts-bin}
 use Rattle.soda.proofs.EqualForms.{normal-keeps, normal-is-normal}
 use Rattle.policy.specs.Words.{kind, sides}
 use Rattle.normal.specs.Merging.{span, lead, operandOf, Operand, Chain, last, more}
-use Rattle.policy.proofs.Grammar.{Begins, begins1, begins2, begins3, begins4, begins5, beginsOp}
-use Rattle.policy.proofs.Encoding.{begins-encode}
+use Rattle.policy.proofs.Grammar.{op-sides}
+use Rattle.policy.proofs.Encoding.{kind-word}
 
 -- ── word counts ──
 few : (l : List ℕ) → All (λ (n : ℕ). n ≤ 2) l → (k : ℕ) → getD l k 0 ≤ 2
@@ -42,22 +43,19 @@ span-within n [] = omega arith
 span-within zero (w ∷ ws) = omega arith
 span-within (suc n) (w ∷ ws) = omega (arith, span-within (n + sides (kind w)) ws)
 
-pub op-sides : (op : Op) → sides (opKind op) ≡ 2
-op-sides either = refl
-op-sides both = refl
-op-sides together = refl
-op-sides apart = refl
-
-span-begins : {ws rest : List ℕ} {φ : Term} → Begins ws φ rest → (n : ℕ) → span (suc n) ws ≡ size φ + span n rest
-span-begins (begins1 e) n = rw (e, add-zero)
-span-begins (begins2 e) n = rw (e, add-zero)
-span-begins (begins3 e) n = rw (e, add-zero)
-span-begins (begins4 e b) n = rw (e, add-one) (omega (arith, span-begins b n))
-span-begins (begins5 e b) n = rw (e, add-one) (omega (arith, span-begins b n))
-span-begins (beginsOp {op = op} e b c) n = rw (e, op-sides op, add-two) (omega (arith, span-begins b (suc n), span-begins c n))
+span-encode : (φ : Term) (rest : List ℕ) (n : ℕ) → So (fits φ) → span (suc n) (encode φ ++ rest) ≡ size φ + span n rest
+span-encode everyone rest n f = rw add-zero
+span-encode (role r) rest n f = rw (kind-word 2 r (so-lt r (2 ^ 16) f), add-zero)
+span-encode (set m) rest n f = rw (kind-word 3 m (so-lt m (2 ^ 16) f), add-zero)
+span-encode (¬ᵗ φ) rest n f = rw add-one (omega (arith, span-encode φ rest n f))
+span-encode (φ ⁺) rest n f = rw add-one (omega (arith, span-encode φ rest n f))
+span-encode (bin op φ ψ) rest n f =
+    let g = and-split (fits φ) (fits ψ) f in
+    rw (append-assoc (encode φ) (encode ψ) rest, kind-word (opKind op) 0 (omega arith), op-sides op, add-two)
+    (omega (arith, span-encode φ (encode ψ ++ rest) (suc n) (g .0), span-encode ψ rest n (g .1)))
 
 span-term : (φ : Term) (rest : List ℕ) → So (fits φ) → span 1 (encode φ ++ rest) ≡ size φ
-span-term φ rest f = omega (arith, span-begins (begins-encode φ rest f) 0, span-none rest)
+span-term φ rest f = omega (arith, span-encode φ rest 0 f, span-none rest)
 
 -- ── the first operand ──
 pub lead-most : (w : ℕ) (ws : List ℕ) → lead w ws ≤ 1
@@ -157,34 +155,18 @@ module _ {w : ℕ} where
     merge-right h = right-first (head A .φ) (head B .φ) (head A .list) (head B .list) (sym in-order ∙ h)
 
 -- ── normal forms ──
-same-kind : (op o : Op) → eqb (opKind op) (opKind o) ≡ sameOp op o
-same-kind either = elim [ either ↦ refl | both ↦ refl | together ↦ refl | apart ↦ refl ]
-same-kind both = elim [ either ↦ refl | both ↦ refl | together ↦ refl | apart ↦ refl ]
-same-kind together = elim [ either ↦ refl | both ↦ refl | together ↦ refl | apart ↦ refl ]
-same-kind apart = elim [ either ↦ refl | both ↦ refl | together ↦ refl | apart ↦ refl ]
-
-op-above : (op : Op) → 5 < opKind op
-op-above either = omega arith
-op-above both = omega arith
-op-above together = omega arith
-op-above apart = omega arith
-
 -- an operand does not begin with the operator
 operands-fine : (op : Op) (φ : Term) → So (fits φ) → All (Operand (opWord op)) (operands op φ)
-operands-fine op everyone f = (record { other = λ e. omega (arith, op-above op); fit = f }, tt)
-operands-fine op (role r) f = (record { other = λ e. omega (arith, op-above op, so-lt r (2 ^ 16) f); fit = f }, tt)
-operands-fine op (set m) f = (record { other = λ e. omega (arith, op-above op, so-lt m (2 ^ 16) f); fit = f }, tt)
-operands-fine op (¬ᵗ φ) f = (record { other = λ e. omega (arith, op-above op); fit = f }, tt)
-operands-fine op (φ ⁺) f = (record { other = λ e. omega (arith, op-above op); fit = f }, tt)
+operands-fine op everyone f = (record { other = λ e. omega (arith, op-high op); fit = f }, tt)
+operands-fine op (role r) f = (record { other = λ e. omega (arith, op-high op, so-lt r (2 ^ 16) f); fit = f }, tt)
+operands-fine op (set m) f = (record { other = λ e. omega (arith, op-high op, so-lt m (2 ^ 16) f); fit = f }, tt)
+operands-fine op (¬ᵗ φ) f = (record { other = λ e. omega (arith, op-high op); fit = f }, tt)
+operands-fine op (φ ⁺) f = (record { other = λ e. omega (arith, op-high op); fit = f }, tt)
 operands-fine op (bin o φ ψ) f = by-test (sameOp op o)
     (λ e. let s = and-split (fits φ) (fits ψ) f in
     rw e (all-append (Operand (opWord op)) (operands op φ) (operands op ψ) (operands-fine op φ (s .0)) (operands-fine op ψ (s .1))))
     λ e. let n = same-kind op o ∙ e in
-    rw e (record { other = λ d. eqb-false (opKind op) (opKind o) n (omega (arith, d)); fit = f }, tt)
-
-operands-some : (op : Op) (φ : Term) → 0 < length (operands op φ)
-operands-some op = by-operands op (λ φ. 0 < length (operands op φ)) (λ φ e. rw e (omega arith))
-    λ φ ψ h k. rw (operands-same op φ ψ) (omega (arith, length-append (operands op φ) (operands op ψ)))
+    rw e (record { other = λ d. eqb-false (opKind o) (opKind op) n (omega (arith, d)); fit = f }, tt)
 
 -- a term in normal form is the chain of its operands
 normal-chain : (op : Op) (φ : Term) → normalForm φ ≡ φ → chain op (operands op φ) ≡ φ

@@ -12,11 +12,11 @@ use lib.Seq.{take-length, drop-length, take-at, drop-at, drop-append-seam, drop-
 use mir.Val.{boolByte}
 use borrow.Rule.Slice.PartMut.{putMid}
 use borrow.Author.Tests.{eq-eqb, ne-eqb}
+use Rattle.soda.proofs.Lists.{from-drop, from-length}
+use Rattle.soda.specs.Lists.{from, merge}
 use Rattle.soda.specs.Terms.{Term}
 use Rattle.soda.specs.Words.{wordsLe, termLe}
-use Rattle.soda.proofs.Sorting.{merge}
 use Rattle.normal.specs.Merging.{span, lead, operandOf, Merging, Merged}
-use Rattle.policy.proofs.Scanning.{from, from-drop, from-length}
 use Rattle.normal.proofs.Chains.{span-within, lead-most, operand-within, head, chain-long, goes-on, ends, chain-append, put, merge-left, merge-right}
 
 -- ── lists ──

@@ -7,19 +7,21 @@ use native.Mathlib.Omega.{arith}
 use lib.ListN.{length, getD, take, drop, set, length-append, length-drop, drop-of-length-le}
 use lib.Seq.{take-at, drop-at, drop-drop, length-take-le}
 use borrow.Rule.Slice.PartMut.{putMid}
+use Rattle.soda.proofs.Lists.{from-drop, from-length}
+use Rattle.soda.specs.Lists.{from, merge}
 use Rattle.soda.specs.Terms.{Op, Term, everyone, role, Term.set as people, ¬ᵗ_, _⁺, bin, size}
-use Rattle.soda.specs.Words.{word, opKind, opWord, encode, fits, termLe}
+use Rattle.soda.specs.Words.{opKind, opWord, encode, fits, termLe}
 use Rattle.soda.specs.Normal.{chain, normalForm}
 use Rattle.soda.proofs.Bools.{and-split, so-lt}
-use Rattle.soda.proofs.Sorting.{merge}
 use Rattle.soda.proofs.Terms.{size-pos}
 use Rattle.soda.proofs.Words.{encode-length}
 use Rattle.soda.proofs.Normal.{parts, nf-merge}
 use Rattle.soda.proofs.EqualForms.{normal-keeps}
 use Rattle.policy.specs.Words.{kind, sides}
 use Rattle.normal.specs.Merging.{Merging, Merged, Spelt, Written}
-use Rattle.policy.proofs.Scanning.{from, from-drop, from-length}
-use Rattle.normal.proofs.Chains.{op-sides, normal-words, words-chain}
+use Rattle.policy.proofs.Grammar.{op-sides}
+use Rattle.policy.proofs.Encoding.{kind-word}
+use Rattle.normal.proofs.Chains.{normal-words, words-chain}
 use Rattle.normal.proofs.Merging.{set-front, behind, came-back}
 
 -- ── the sides of the first word ──
@@ -53,14 +55,13 @@ module _ (ws : List ℕ) (φ : Term) (rest : List ℕ) where
 
 sided : (φ : Term) (rest : List ℕ) → So (fits φ) → Sides (encode φ ++ rest) φ rest (sides (kind (getD (encode φ ++ rest) 0 0)))
 sided everyone rest f = none (record { long = refl; normal = refl })
-sided (role r) rest f = let e : kind (word 2 r) ≡ 2 = omega (arith, so-lt r (2 ^ 16) f) in rw e (none (record { long = refl; normal = refl }))
-sided (people m) rest f = let e : kind (word 3 m) ≡ 3 = omega (arith, so-lt m (2 ^ 16) f) in rw e (none (record { long = refl; normal = refl }))
+sided (role r) rest f = let e = kind-word 2 r (so-lt r (2 ^ 16) f) in rw e (none (record { long = refl; normal = refl }))
+sided (people m) rest f = let e = kind-word 3 m (so-lt m (2 ^ 16) f) in rw e (none (record { long = refl; normal = refl }))
 sided (¬ᵗ φ) rest f = one (record { ψ = φ; fit = f; behind = refl; long = refl; normal = refl })
 sided (φ ⁺) rest f = one (record { ψ = φ; fit = f; behind = refl; long = refl; normal = refl })
 sided (bin op φ ψ) rest f =
     let s = and-split (fits φ) (fits ψ) f in
-    let e : kind (opWord op) ≡ opKind op = omega arith in
-    rw (e, op-sides op)
+    rw (kind-word (opKind op) 0 (omega arith), op-sides op)
     (two (record {
       op = op;
       ψ = φ;

@@ -6,10 +6,10 @@ use Prim.Native.Nat.{ℕ, zero, suc, _+_, _≤_}
 use lib.Dec.{eqb}
 use mir.Val.{boolByte}
 use lib.ListN.{length, getD, take, drop}
+use Rattle.soda.specs.Lists.{merge}
 use Rattle.soda.specs.Terms.{Term, size}
 use Rattle.soda.specs.Words.{encode, fits, termLe}
 use Rattle.soda.specs.Normal.{normalForm}
-use Rattle.soda.proofs.Sorting.{merge}
 use Rattle.policy.specs.Words.{kind, sides}
 
 -- how many words the next n terms have

@@ -1,5 +1,5 @@
 -- The normal form call (document 01, "Normal form", "Numbers"): its number and its output.
-use mathlib.Core.Bool.{Bool, cond}
+use mathlib.Core.Bool.{cond}
 use mathlib.Core.List.{List, [], _∷_, _++_}
 use mathlib.Core.Option.{Option, some, none}
 use Prim.Native.Nat.{ℕ}
@@ -9,7 +9,7 @@ use Rattle.soda.specs.Terms.{Term}
 use Rattle.soda.specs.Words.{encode}
 use Rattle.soda.specs.Normal.{normalForm}
 use Rattle.policy.specs.Codes.{ACCEPTED, OUTPUT}
-use Rattle.policy.specs.Refusals.{_gives_, code}
+use Rattle.policy.specs.Refusals.{Refusals, _gives_, code}
 use Rattle.policy.specs.Words.{decode}
 use Rattle.policy.specs.Reading.{refusals}
 
@@ -22,7 +22,7 @@ unfoldable pub normalWords : List ℕ → List ℕ
 normalWords ws = normalIn (decode ws)
 
 -- 5, 1 to 4, 13: an output shorter than the policy; n is the output's length
-unfoldable pub normalRefusals : ℕ → ℕ → List ℕ → ℕ → List (Bool × ℕ)
+unfoldable pub normalRefusals : ℕ → ℕ → List ℕ → ℕ → Refusals
 normalRefusals users roles ws n = refusals users roles ws ++ ((ltb n (length ws) gives OUTPUT) ∷ [])
 
 abbrev pub normalCode : ℕ → ℕ → List ℕ → ℕ → ℕ

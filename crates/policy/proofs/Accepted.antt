@@ -1,9 +1,9 @@
 -- Reading is the inverse of `encode`: what each answer says of the words.
 use mathlib.Core.Path.{_≡_, refl, sym, _∙_, ap, ap₂}
-use mathlib.Core.Bool.{Bool, true, false, So, not, _&&_}
+use mathlib.Core.Bool.{false, So, not, _&&_}
 use mathlib.Core.List.{List, [], _∷_, append-nil}
 use mathlib.Core.Option.{Option, some, none}
-use Prim.Native.Nat.{ℕ, _≤_}
+use Prim.Native.Nat.{ℕ}
 use native.Mathlib.Omega.{arith}
 use lib.Dec.{leb}
 use lib.ListN.{length}
@@ -17,12 +17,12 @@ use Rattle.soda.proofs.Words.{encode-length, declared-fits}
 use Rattle.policy.specs.Codes.{WORD-COUNT, WORD, TERM, UNIT, COUNTS}
 use Rattle.policy.specs.Words.{wordOk, decode}
 use Rattle.policy.specs.Reading.{countOk, lengthOk, isTerm, isFormed, answer, readPolicy}
-use Rattle.policy.specs.Refusals.{_gives_, code}
-use Rattle.policy.specs.Accepted.{WordsOf, DecodeIsEncode, InLayout, ThreeIsNoTerm, FourIsNotFormed, IsPolicy, ReadIsEncode, TermIsOne, DecodeIsTerm}
+use Rattle.policy.specs.Refusals.{Refusals, _gives_, code}
+use Rattle.policy.specs.Accepted.{WordsOf, DecodeIsEncode, InLayout, ThreeIsNoTerm, FourIsNotFormed, IsPolicy, PolicyIsWords, ReadIsEncode, TermIsOne, DecodeIsTerm}
 use Rattle.policy.specs.declared.PolicyRead.{PolicyRead}
 use Rattle.policy.specs.declared.PolicyRead.the-variants.{Accepted, Refused}
 use Rattle.policy.proofs.Grammar.{begins-whole, decode-whole}
-use Rattle.policy.proofs.Scanning.{length-most, counts-most}
+use Rattle.policy.proofs.Scanning.{length-range, counts-most}
 use Rattle.policy.proofs.Encoding.{spelt, fits-begins, begins-encode, encode-ok}
 
 -- ── words and terms ──
@@ -36,7 +36,7 @@ decode-is-encode users roles ws φ ok = (
 )
 
 -- ── the answers ──
-abbrev pub lastRefusals : Option Term → List (Bool × ℕ)
+abbrev pub lastRefusals : Option Term → Refusals
 lastRefusals x = (not (isTerm x) gives TERM) ∷ (not (isFormed x) gives UNIT) ∷ []
 
 module _ (users roles : ℕ) (ws : List ℕ) where
@@ -128,12 +128,12 @@ four-is-not-formed users roles ws = (to, back)
     back h = is-ill users roles ws (h .1) (h .0) (decodes ws (h .0) (h .2)) (h .3)
 
 -- ── accepted policies ──
-module _ (users roles : ℕ) (ws : List ℕ) (φ : Term) (p : IsPolicy users roles ws φ) where
-  policy-words : WordsOf φ ws
-  policy-words =
-      let c = counts-most users roles (p .counts) in
-      record { written = p .written; fit = declared-fits users roles φ (c .0) (c .1) (p .isDeclared) }
+pub policy-is-words : PolicyIsWords
+policy-is-words users roles ws φ p =
+    let c = counts-most users roles (p .counts) in
+    record { written = p .written; fit = declared-fits users roles φ (c .0) (c .1) (p .isDeclared) }
 
+module _ (users roles : ℕ) (ws : List ℕ) (φ : Term) (p : IsPolicy users roles ws φ) where
   policy-length : length ws ≡ size φ
   policy-length = ap length (p .written) ∙ encode-length φ
 
@@ -149,7 +149,7 @@ module _ (users roles : ℕ) (ws : List ℕ) (φ : Term) (p : IsPolicy users rol
       }
 
 pub decode-is-term : DecodeIsTerm
-decode-is-term users roles ws φ p = decodes ws φ (policy-words users roles ws φ p)
+decode-is-term users roles ws φ p = decodes ws φ (policy-is-words users roles ws φ p)
 
 pub term-is-one : TermIsOne
 term-is-one users roles ws φ ψ p q = let z : some φ ≡ some ψ = sym (decode-is-term users roles ws φ p) ∙ decode-is-term users roles ws ψ q in cc
@@ -165,7 +165,7 @@ read-is-encode users roles ws n m = (to, back)
         let s = spelt users roles (begins-whole ws φ (r .2)) (p .layout) in
         let w : ws ≡ encode φ = s .words ∙ append-nil (encode φ) in
         let l : length ws ≡ size φ = ap length w ∙ encode-length φ in
-        let b = length-most (length ws) (p .long) in (
+        let b = length-range (length ws) (p .long) in (
           φ,
           record { counts = p .counts; written = w; formed = r .3; isDeclared = s .names; short = omega arith },
           sym (r .4) ∙ l,

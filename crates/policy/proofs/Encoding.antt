@@ -1,21 +1,18 @@
 -- Words in the layout that begin with a term begin with that term's words, and a declared term's words are in the layout.
 use mathlib.Core.Path.{_≡_, refl, sym, _∙_, ap, ap₂}
-use mathlib.Core.Bool.{Bool, true, false, So, not, _&&_, cond}
-use mathlib.Core.List.{List, [], _∷_, _++_, append-assoc, append-nil}
-use mathlib.Core.Option.{Option, some, none}
+use mathlib.Core.Bool.{Bool, So, _&&_}
+use mathlib.Core.List.{List, [], _∷_, _++_, append-assoc}
 use Prim.Native.Nat.{ℕ, _/_, _%_, _^_, _≤_, _<_}
 use native.Mathlib.Omega.{arith}
 use lib.Dec.{leb, eqb}
-use lib.ListN.{length}
-use borrow.Author.Tests.{le-leb}
 use Rattle.soda.specs.Lists.{all}
-use Rattle.soda.specs.Terms.{Op, either, both, together, apart, Term, everyone, role, set, ¬ᵗ_, _⁺, bin, unit, wellFormed, size, marks}
+use Rattle.soda.specs.Terms.{Op, either, both, together, apart, Term, everyone, role, set, ¬ᵗ_, _⁺, bin}
 use Rattle.soda.specs.Words.{word, opKind, opWord, encode, fits, declared}
 use Rattle.soda.proofs.Bools.{and-split, and-join, lt-so, so-lt, so-eq}
-use Rattle.soda.proofs.Terms.{size-pos}
-use Rattle.soda.proofs.Words.{encode-length, declared-fits}
-use Rattle.policy.specs.Words.{kind, operand, operandOk, wordOk, decode}
-use Rattle.policy.proofs.Grammar.{Begins, begins1, begins2, begins3, begins4, begins5, beginsOp, begins-whole, decode-whole}
+use Rattle.soda.proofs.Words.{declared-fits}
+use Rattle.policy.specs.Words.{kind, operand, operandOk, wordOk}
+use Rattle.policy.specs.Accepted.{KindOfWord, OperandOfWord}
+use Rattle.policy.proofs.Grammar.{Begins, begins1, begins2, begins3, begins4, begins5, beginsOp}
 
 -- ── from words to a term ──
 module _ (users roles : ℕ) where
@@ -88,10 +85,10 @@ fits-begins (begins5 e b) = fits-begins b
 fits-begins (beginsOp {φ = φ} {ψ = ψ} e b c) = and-join (fits φ) (fits ψ) (fits-begins b) (fits-begins c)
 
 -- ── from a term to words ──
-kind-word : (k x : ℕ) → x < 2 ^ 16 → kind (word k x) ≡ k
+pub kind-word : KindOfWord
 kind-word k x h = omega arith
 
-operand-word : (k x : ℕ) → x < 2 ^ 16 → operand (word k x) ≡ x
+operand-word : OperandOfWord
 operand-word k x h = omega arith
 
 pub begins-encode : (φ : Term) (rest : List ℕ) → So (fits φ) → Begins (encode φ ++ rest) φ rest

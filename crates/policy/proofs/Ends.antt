@@ -10,13 +10,12 @@ use native.Mathlib.Omega.{arith}
 use lib.Dec.{eqb}
 use lib.ListN.{length, getD, take, drop, set, replicate, take-append-drop, length-drop, length-set}
 use lib.Seq.{drop-cons, drop-nil, drop-drop, drop-set-lt, getD-set-same, getD-set-other, length-take-le, lt-length-set, take-add}
-use Rattle.soda.specs.Terms.{Op, either, both, together, apart, Term, bin, size}
-use Rattle.soda.specs.Words.{opKind}
+use Rattle.soda.specs.Terms.{Op, Term, bin, size}
 use Rattle.soda.proofs.Terms.{size-pos}
 use Rattle.policy.specs.Words.{kind, sides}
 use Rattle.policy.specs.Shapes.{rightSides}
 use Rattle.policy.specs.Scans.{RightsOf}
-use Rattle.policy.proofs.Grammar.{Begins, begins1, begins2, begins3, begins4, begins5, beginsOp, length-begins, drop-begins, begins-whole}
+use Rattle.policy.proofs.Grammar.{op-sides, Begins, begins1, begins2, begins3, begins4, begins5, beginsOp, length-begins, drop-begins, begins-whole}
 
 zeros : (n i : ℕ) → getD {A = ℕ} (replicate n 0) i 0 ≡ 0
 zeros zero i = refl
@@ -64,12 +63,6 @@ begin ws h = record {
   rest = drop-zeros 31 (length ws);
   terms = λ j {φ} l b. absurd (omega (arith, length-begins b, length-drop j ws, size-pos φ));
 }
-
-op-sides : (op : Op) → sides (opKind op) ≡ 2
-op-sides either = refl
-op-sides both = refl
-op-sides together = refl
-op-sides apart = refl
 
 -- one word more: the word k has n sides, r and e are entered for it
 module _ (ws right end : List ℕ) (i k n r e : ℕ) (short : length ws ≤ 31) (inside : k < length ws) (down : i ≡ 1 + k)

@@ -14,6 +14,7 @@ use borrow.Author.Tests.{le-leb, lt-leb, eq-eqb, ne-eqb}
 use Rattle.soda.specs.Terms.{Op, either, both, together, apart, Term, everyone, role, set, ¬ᵗ_, _⁺, bin, size}
 use Rattle.soda.specs.Words.{opKind}
 use Rattle.policy.specs.Words.{Kind, bad, everyoneK, roleK, setK, notK, plusK, opK, kind, operand, sides, kindOf, head, tail, lift1, lift2, push, row, first, single, decode}
+use Rattle.policy.specs.Accepted.{OpSides}
 use Rattle.policy.specs.Scans.{known}
 
 -- ── kinds ──
@@ -56,6 +57,12 @@ unknown-bad k e = elim (row-of k) [
   | inl r ↦ absurd (true≢false (sym (r .0) ∙ e))
   | inr r ↦ r .1
 ]
+
+pub op-sides : OpSides
+op-sides either = refl
+op-sides both = refl
+op-sides together = refl
+op-sides apart = refl
 
 pub push-op : (op : Op) (x : ℕ) (ts : List (Option Term)) → push (kindOf (opKind op)) x ts ≡ lift2 op (head ts) (head (tail ts)) ∷ tail (tail ts)
 push-op either x ts = refl

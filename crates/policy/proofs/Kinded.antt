@@ -13,7 +13,7 @@ use borrow.Author.Tests.{ne-eqb}
 use Rattle.soda.specs.Bits.{number}
 use Rattle.soda.specs.Terms.{Op, either, both, together, apart, Term, everyone, role, set, ¬ᵗ_, _⁺, bin, sameOp, unit, subterms, marks}
 use Rattle.soda.specs.Words.{opKind}
-use Rattle.soda.proofs.Words.{tag}
+use Rattle.soda.proofs.Words.{tag, op-high, same-kind}
 use Rattle.policy.specs.Words.{kind, decode}
 use Rattle.policy.specs.Shapes.{isPlus, isOp}
 use Rattle.policy.specs.Scans.{putOf, ofKind, kindsOf, withoutOf}
@@ -67,30 +67,6 @@ module _ (f : ℕ → Bool) where
   kinds-are ws φ d = ap number (kinds-begin (begins-whole ws φ d) ∙ append-nil (map (λ ψ. f (tag ψ)) (subterms φ)))
 
 -- ── the rows of the table ──
-same-op : (op o : Op) → eqb (opKind o) (opKind op) ≡ sameOp op o
-same-op either either = refl
-same-op either both = refl
-same-op either together = refl
-same-op either apart = refl
-same-op both either = refl
-same-op both both = refl
-same-op both together = refl
-same-op both apart = refl
-same-op together either = refl
-same-op together both = refl
-same-op together together = refl
-same-op together apart = refl
-same-op apart either = refl
-same-op apart both = refl
-same-op apart together = refl
-same-op apart apart = refl
-
-op-high : (op : Op) → 5 < opKind op
-op-high either = omega arith
-op-high both = omega arith
-op-high together = omega arith
-op-high apart = omega arith
-
 low : (k : ℕ) (op : Op) → k < 6 → eqb k (opKind op) ≡ false
 low k op h = ne-eqb k (opKind op) (λ e. omega (arith, op-high op))
 
@@ -106,7 +82,7 @@ own-op op (role r) = rw (low 2 op (omega arith))
 own-op op (set m) = rw (low 3 op (omega arith))
 own-op op (¬ᵗ φ) = rw (low 4 op (omega arith))
 own-op op (φ ⁺) = rw (low 5 op (omega arith))
-own-op op (bin o φ ψ) = rw (same-op op o) (pick (sameOp op o) (unit (bin o φ ψ)))
+own-op op (bin o φ ψ) = rw (same-kind op o) (pick (sameOp op o) (unit (bin o φ ψ)))
 
 own-plus : (φ : Term) → eqb (tag φ) 5 ≡ isPlus φ
 own-plus everyone = refl

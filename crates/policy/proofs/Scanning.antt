@@ -1,45 +1,36 @@
 -- What the scan answers at the words, by the first word's kind and the answers for its sides.
 use mathlib.Core.Path.{_≡_, refl, sym, _∙_, ap}
-use mathlib.Core.Bool.{Bool, true, false, _&&_, cond}
+use mathlib.Core.Bool.{Bool, true, false, So, _&&_, cond}
 use mathlib.Core.List.{List, [], _∷_}
 use mathlib.Core.Option.{Option, some, none}
-use Prim.Native.Nat.{ℕ, _+_, _-_, _≤_, _<_}
+use Prim.Native.Nat.{ℕ, _+_, _≤_, _<_}
 use native.Mathlib.Omega.{arith}
 use lib.Dec.{leb, eqb}
 use borrow.Author.Tests.{leb-true, ne-eqb}
-use lib.ListN.{length, getD, take, drop, length-drop}
-use lib.Seq.{take-all, drop-drop}
+use lib.ListN.{length, getD, drop}
+use lib.Seq.{drop-drop}
+use Rattle.soda.proofs.Lists.{from-drop}
+use Rattle.soda.specs.Lists.{from}
 use Rattle.soda.specs.Terms.{Term, size}
 use Rattle.soda.proofs.Bools.{and-split}
 use Rattle.soda.proofs.Terms.{size-pos}
 use Rattle.policy.specs.Words.{kind, operand, sides, kindOf, head, tail, push, row, first, decode}
-use Rattle.policy.specs.Reading.{countOk, lengthOk, isTerm}
+use Rattle.policy.specs.Reading.{countOk, isTerm}
+use Rattle.policy.specs.Accepted.{CountsInRange, LengthInRange}
 use Rattle.policy.specs.Scans.{known, extent}
 use Rattle.policy.proofs.Grammar.{Row, row1, row2, row3, row4, row5, rowOp, known-row, unknown-bad, push-op, begins, row-begins, length-begins, decode-missing, decode-first}
 
 -- ── the tests of counts and length ──
-most : (m n : ℕ) → (leb 1 n && leb n m) ≡ true → n ≤ m
-most m n e = leb-true n m (and-split (leb 1 n) (leb n m) e .1)
+in-range : (m n : ℕ) → So (leb 1 n && leb n m) → (1 ≤ n) × (n ≤ m)
+in-range m n e = let s = and-split (leb 1 n) (leb n m) e in (leb-true 1 n (s .0), leb-true n m (s .1))
 
-pub length-least : (n : ℕ) → lengthOk n ≡ true → 1 ≤ n
-length-least n e = leb-true 1 n (and-split (leb 1 n) (leb n 31) e .0)
+pub length-range : LengthInRange
+length-range n e = in-range 31 n e
 
-pub length-most : (n : ℕ) → lengthOk n ≡ true → n ≤ 31
-length-most n e = most 31 n e
-
-pub counts-most : (users roles : ℕ) → (countOk users && countOk roles) ≡ true → (users ≤ 16) × (roles ≤ 16)
-counts-most users roles e = let s = and-split (countOk users) (countOk roles) e in (most 16 users (s .0), most 16 roles (s .1))
+pub counts-most : CountsInRange
+counts-most users roles e = let s = and-split (countOk users) (countOk roles) e in (in-range 16 users (s .0) .1, in-range 16 roles (s .1) .1)
 
 -- ── the first word, and the parts as the code takes them ──
-abbrev pub from : ℕ → List ℕ → List ℕ
-from k ws = take (length ws - k) (drop k ws)
-
-pub from-drop : (k : ℕ) (ws : List ℕ) → from k ws ≡ drop k ws
-from-drop k ws = take-all (length ws - k) (drop k ws) (omega (arith, length-drop k ws))
-
-pub from-length : (k : ℕ) (ws : List ℕ) → length (from k ws) ≡ length ws - k
-from-length k ws = ap length (from-drop k ws) ∙ length-drop k ws
-
 pub no-words : (ws : List ℕ) → length ws ≡ 0 → ws ≡ []
 no-words [] h = refl
 no-words (w ∷ ws) h = absurd (omega arith)

@@ -1,18 +1,29 @@
--- What is proved of reading: it is the inverse of `encode`. Statements only.
+-- What is proved of words and of reading: it is the inverse of `encode`. Statements only.
 use mathlib.Core.Path.{_≡_}
 use mathlib.Core.Logic.{_↔_}
 use mathlib.Core.Bool.{false, So, _&&_}
 use mathlib.Core.List.{List}
 use mathlib.Core.Option.{some}
-use Prim.Native.Nat.{ℕ, _≤_}
+use Prim.Native.Nat.{ℕ, _^_, _≤_, _<_}
 use lib.ListN.{length}
 use Rattle.soda.specs.Lists.{all}
-use Rattle.soda.specs.Terms.{Term, unit, wellFormed, size, marks}
-use Rattle.soda.specs.Words.{encode, fits, declared}
+use Rattle.soda.specs.Terms.{Op, Term, unit, wellFormed, size, marks}
+use Rattle.soda.specs.Words.{word, opKind, encode, fits, declared}
 use Rattle.policy.specs.Codes.{TERM, UNIT}
-use Rattle.policy.specs.Words.{wordOk, decode}
+use Rattle.policy.specs.Words.{kind, operand, sides, wordOk, decode}
 use Rattle.policy.specs.Reading.{countOk, lengthOk, readPolicy}
 use Rattle.policy.specs.declared.PolicyRead.the-variants.{Accepted, Refused}
+
+-- ── words ──
+-- A word is its kind and its operand, which has 16 bits; an operator has two sides.
+abbrev pub KindOfWord : Type 0
+KindOfWord = (k x : ℕ) → x < 2 ^ 16 → kind (word k x) ≡ k
+
+abbrev pub OperandOfWord : Type 0
+OperandOfWord = (k x : ℕ) → x < 2 ^ 16 → operand (word k x) ≡ x
+
+abbrev pub OpSides : Type 0
+OpSides = (op : Op) → sides (opKind op) ≡ 2
 
 -- ── what the words are ──
 -- The words are those of φ, whose operands have their 16 bits.
@@ -59,9 +70,20 @@ ReadIsEncode =
     (users roles : ℕ) (ws : List ℕ) (n m : ℕ)
     → (readPolicy users roles ws ≡ Accepted n m) ↔ ((φ : Term) × IsPolicy users roles ws φ × (n ≡ size φ) × (m ≡ marks unit φ))
 
--- .. and then that term is the only one, and the one that the words decode to.
+-- .. then the words are those of the term ..
+abbrev pub PolicyIsWords : Type 0
+PolicyIsWords = (users roles : ℕ) (ws : List ℕ) (φ : Term) → IsPolicy users roles ws φ → WordsOf φ ws
+
+-- .. and it is the only such term, and the one that the words decode to.
 abbrev pub TermIsOne : Type 0
 TermIsOne = (users roles : ℕ) (ws : List ℕ) (φ ψ : Term) → IsPolicy users roles ws φ → IsPolicy users roles ws ψ → φ ≡ ψ
 
 abbrev pub DecodeIsTerm : Type 0
 DecodeIsTerm = (users roles : ℕ) (ws : List ℕ) (φ : Term) → IsPolicy users roles ws φ → decode ws ≡ some φ
+
+-- ── the tests of counts and length ──
+abbrev pub CountsInRange : Type 0
+CountsInRange = (users roles : ℕ) → So (countOk users && countOk roles) → (users ≤ 16) × (roles ≤ 16)
+
+abbrev pub LengthInRange : Type 0
+LengthInRange = (n : ℕ) → So (lengthOk n) → (1 ≤ n) × (n ≤ 31)

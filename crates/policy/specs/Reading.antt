@@ -9,7 +9,7 @@ use Rattle.soda.specs.Lists.{all}
 use Rattle.soda.specs.Terms.{Term, unit, wellFormed, marks}
 use Rattle.soda.specs.Tables.{metBits}
 use Rattle.policy.specs.Codes.{ACCEPTED, WORD-COUNT, WORD, TERM, UNIT, COUNTS}
-use Rattle.policy.specs.Refusals.{_gives_, code}
+use Rattle.policy.specs.Refusals.{Refusals, _gives_, code}
 use Rattle.policy.specs.Words.{wordOk, decode}
 use Rattle.policy.specs.declared.PolicyRead.{PolicyRead}
 use Rattle.policy.specs.declared.PolicyRead.the-variants.{Accepted, Refused}
@@ -32,7 +32,7 @@ isFormed none = true
 isFormed (some φ) = wellFormed φ
 
 -- 01's order: 5, 1, 2, 3, 4
-abbrev pub refusals : ℕ → ℕ → List ℕ → List (Bool × ℕ)
+abbrev pub refusals : ℕ → ℕ → List ℕ → Refusals
 refusals users roles ws =
     (not (countOk users && countOk roles) gives COUNTS)
     ∷ (not (lengthOk (length ws)) gives WORD-COUNT)

@@ -6,12 +6,13 @@ use mathlib.Core.Option.{Option, some, none}
 use Prim.Native.Nat.{ℕ, _+_, _-_, _*_, _/_, _%_, _^_}
 use lib.Bits.{bitAnd, bitOr}
 use lib.Dec.{leb, ltb, eqb}
+use Rattle.soda.specs.Lists.{padded}
 use Rattle.soda.specs.Bits.{bit, number}
 use Rattle.soda.specs.Terms.{Term, unit, wellFormed, size, marks}
 use Rattle.soda.specs.Tables.{metBits}
 use Rattle.policy.specs.Kinds.{EVERYONE, ROLE, NOT, PLUS, EITHER, BOTH, TOGETHER, APART}
 use Rattle.policy.specs.Words.{kind, decode}
-use Rattle.policy.specs.Shapes.{rightSides, padded}
+use Rattle.policy.specs.Shapes.{rightSides}
 use Rattle.policy.specs.declared.Stack.{Stack}
 use Rattle.policy.specs.declared.Judged.{Judged}
 use Rattle.policy.specs.declared.KindMasks.{KindMasks}

@@ -3,8 +3,9 @@
 use mathlib.Core.Bool.{Bool, true, false, cond}
 use mathlib.Core.List.{List, [], _∷_, _++_}
 use mathlib.Core.Option.{Option, some, none}
-use Prim.Native.Nat.{ℕ, _+_, _-_}
+use Prim.Native.Nat.{ℕ, _+_}
 use lib.ListN.{length, replicate}
+use Rattle.soda.specs.Lists.{padded}
 use Rattle.soda.specs.Terms.{Op, either, both, together, apart, Term, everyone, role, set, ¬ᵗ_, _⁺, bin, sameOp, unit, wellFormed, size, marks}
 use Rattle.policy.specs.Words.{decode}
 use Rattle.policy.specs.Reading.{lengthOk}
@@ -36,10 +37,6 @@ rightSides i (set m) = (1 + i) ∷ []
 rightSides i (¬ᵗ φ) = (1 + i) ∷ rightSides (1 + i) φ
 rightSides i (φ ⁺) = (1 + i) ∷ rightSides (1 + i) φ
 rightSides i (bin op φ ψ) = (1 + i + size φ) ∷ (rightSides (1 + i) φ ++ rightSides (1 + i + size φ) ψ)
-
--- zeros behind a list, up to n in all
-abbrev pub padded : ℕ → List ℕ → List ℕ
-padded n l = l ++ replicate (n - length l) 0
 
 -- nothing
 abbrev pub blankShape : Shape

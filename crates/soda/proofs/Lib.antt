@@ -1,6 +1,7 @@
 -- Vocabulary.
 pub mod Bools
 pub mod Bits
+pub mod Lists
 pub mod Splits
 pub mod Sorting
 -- Terms and words.

@@ -5,14 +5,14 @@ use mathlib.Core.List.{List, [], _∷_, _++_, map, map-append, append-assoc}
 use Prim.Native.Nat.{_<_}
 use native.Mathlib.Omega.{arith}
 use lib.ListN.{length, length-append}
-use Rattle.soda.specs.Lists.{insert, ascending}
+use Rattle.soda.specs.Lists.{insert, ascending, merge}
 use Rattle.soda.specs.Terms.{Op, either, both, together, apart, Term, everyone, role, set, ¬ᵗ_, _⁺, bin, sameOp}
 use Rattle.soda.specs.Words.{fits, termLe}
 use Rattle.soda.specs.Steps.{Turn, exchange, regroup, back, Step, here, in-not, in-plus, in-left, in-right, Steps}
 use Rattle.soda.specs.Normal.{operands, chain, sorted, normalForm}
 use Rattle.soda.specs.EqualForms.{SameFormIsSteps, OperandsAscend, NormalIsChain}
 use Rattle.soda.proofs.Bools.{never, by-test, and-split, and-join}
-use Rattle.soda.proofs.Sorting.{All, all-append, insert-length, merge, merge-sort}
+use Rattle.soda.proofs.Sorting.{All, all-append, insert-length, merge-sort}
 use Rattle.soda.proofs.Sorting.{sort-length, sort-all, sort-ascending, sort-sort, sort-comm, sort-left, sort-right}
 use Rattle.soda.proofs.Words.{term-total, term-trans, term-antisym}
 use Rattle.soda.proofs.Steps.{one-turn, steps-trans, steps-back, steps-eq, steps-not, steps-plus, steps-right, steps-both, steps-fits}

@@ -4,8 +4,7 @@ use mathlib.Core.Bool.{Bool, false, So, cond, false≢true}
 use mathlib.Core.List.{List, [], _∷_, _++_, append-nil}
 use Prim.Native.Nat.{suc}
 use lib.ListN.{length}
-use Rattle.soda.specs.Lists.{insert, sort, ascending}
-pub use Rattle.soda.specs.Merges.{merge}
+use Rattle.soda.specs.Lists.{insert, sort, ascending, merge}
 use Rattle.soda.proofs.Bools.{by-test, not-so, and-split, and-join}
 
 -- P holds of every element

@@ -61,15 +61,14 @@ words-antisym (a ∷ u) (b ∷ v) p q = elim (le-cons a b u v p) [
   ]
 ]
 
--- ── operators ──
--- their kinds are above those of the other words, and tell them apart
+-- ── the operators' kinds ──
 pub op-high : (op : Op) → 5 < opKind op
 op-high either = omega arith
 op-high both = omega arith
 op-high together = omega arith
 op-high apart = omega arith
 
-pub same-kind : (op o : Op) → eqb (opKind op) (opKind o) ≡ sameOp op o
+pub same-kind : (op o : Op) → eqb (opKind o) (opKind op) ≡ sameOp op o
 same-kind either = elim [ either ↦ refl | both ↦ refl | together ↦ refl | apart ↦ refl ]
 same-kind both = elim [ either ↦ refl | both ↦ refl | together ↦ refl | apart ↦ refl ]
 same-kind together = elim [ either ↦ refl | both ↦ refl | together ↦ refl | apart ↦ refl ]

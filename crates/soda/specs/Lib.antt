@@ -17,4 +17,3 @@ pub mod Normal
 pub mod Accuracy
 pub mod EqualForms
 -- For private contracts.
-pub mod Merges

@@ -1,8 +1,9 @@
--- Lists: tests over their elements, the ways in which a list falls into two, counting and sorting.
+-- Lists: tests over their elements, the ways in which a list falls into two, parts and padding, counting, sorting and merging.
 use mathlib.Core.Bool.{Bool, true, false, _&&_, _||_, cond}
 use mathlib.Core.List.{List, [], _∷_, _++_, map}
-use Prim.Native.Nat.{ℕ, _+_}
+use Prim.Native.Nat.{ℕ, _+_, _-_}
 use lib.Dec.{eqb}
+use lib.ListN.{length, take, drop, replicate}
 
 module _ {A : Type 0} where
   abbrev pub any : (A → Bool) → List A → Bool
@@ -30,6 +31,14 @@ module _ {A : Type 0} where
     left : {x : A} {s l r : List A} → Split s l r → Split (x ∷ s) (x ∷ l) r
     right : {x : A} {s l r : List A} → Split s l r → Split (x ∷ s) l (x ∷ r)
 
+-- what stands from place k on, as the code's `&l[k..]` takes it
+abbrev pub from : ℕ → List ℕ → List ℕ
+from k l = take (length l - k) (drop k l)
+
+-- zeros behind a list, up to n in all
+abbrev pub padded : ℕ → List ℕ → List ℕ
+padded n l = l ++ replicate (n - length l) 0
+
 -- how often a number occurs
 abbrev pub count : ℕ → List ℕ → ℕ
 count n [] = 0
@@ -50,3 +59,12 @@ module _ {A : Type 0} (le : A → A → Bool) where
   ascending [] = true
   ascending (x ∷ []) = true
   ascending (x ∷ y ∷ l) = le x y && ascending (y ∷ l)
+
+  -- Two ascending lists as one. `mergeInto x rest ys`: x and what follows it in the first list (`rest` merges that), with ys.
+  abbrev pub mergeInto : A → (List A → List A) → List A → List A
+  mergeInto x rest [] = x ∷ rest []
+  mergeInto x rest (y ∷ ys) = cond (le x y) (x ∷ rest (y ∷ ys)) (y ∷ mergeInto x rest ys)
+
+  abbrev pub merge : List A → List A → List A
+  merge [] ys = ys
+  merge (x ∷ xs) ys = mergeInto x (merge xs) ys

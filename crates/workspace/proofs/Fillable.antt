@@ -12,11 +12,11 @@ use Rattle.soda.specs.Lists.{all}
 use Rattle.soda.specs.Terms.{Term, wellFormed}
 use Rattle.soda.proofs.Bools.{and-join}
 use Rattle.soda.proofs.Terms.{size-pos}
-use Rattle.policy.specs.Words.{decode}
+use Rattle.policy.specs.Words.{decode, termOf}
 use Rattle.policy.specs.Reading.{lengthOk}
 use Rattle.policy.specs.Shapes.{rightSides, blankShape, termShape, shapeIn, shapeOf}
 use Rattle.policy.specs.declared.Shape.{Shape}
-use Rattle.workspace.specs.Workspace.{isFillable, termOf, filled, fillOf}
+use Rattle.workspace.specs.Workspace.{isFillable, filled, fillOf}
 use Rattle.workspace.specs.Steps.{Shaped}
 use Rattle.workspace.specs.declared.Action.{Action}
 use Rattle.workspace.proofs.Standing.{rights-length}

@@ -9,8 +9,7 @@ use Rattle.soda.specs.Bits.{bit, number}
 use Rattle.soda.specs.Lists.{all}
 use Rattle.soda.specs.Terms.{Term, wellFormed, size, termAt}
 use Rattle.soda.specs.Tables.{bitTable}
-pub use Rattle.policy.specs.Words.{termOf}
-use Rattle.policy.specs.Words.{decode}
+use Rattle.policy.specs.Words.{decode, termOf}
 use Rattle.policy.specs.Reading.{lengthOk}
 use Rattle.workspace.specs.declared.Action.{Action}
 

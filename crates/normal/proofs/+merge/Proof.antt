@@ -8,8 +8,8 @@ use lib.ListN.{length, set, length-set}
 use borrow.Author.Needs.{needs}
 use borrow.Fn.Kinds.{In}
 use borrow.Fn.PlainCycle.{Measures, is, falls, and}
+use Rattle.soda.proofs.Lists.{from-length}
 use Rattle.normal.specs.Merging.{operandOf, Merging}
-use Rattle.policy.proofs.Scanning.{from-length}
 use Rattle.normal.proofs.Merging.{Room, room, left-room, left-more, left-on, left-again, left-last, right-room, right-on, right-again, right-last}
 use Rattle.normal.proofs.merge.Reads as merge
 use Rattle.normal.proofs.merge.Kinds as merge-kinds

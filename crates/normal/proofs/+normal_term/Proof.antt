@@ -9,9 +9,9 @@ use lib.Seq.{length-take-le}
 use borrow.Author.Needs.{needs}
 use borrow.Fn.Kinds.{In}
 use borrow.Fn.PlainCycle.{Measures, is, falls, and}
+use Rattle.soda.proofs.Lists.{from-length}
 use Rattle.policy.specs.Words.{kind, sides}
 use Rattle.normal.specs.Merging.{Spelt}
-use Rattle.policy.proofs.Scanning.{from-length}
 use Rattle.normal.proofs.Normalising.{One, Two, spelt-some, spelt-room, no-side, one-side, two-sides, one-word, inner, over-word, first-side, sizes, second-side, both-sides, both-words, over-both}
 use Rattle.normal.proofs.normal_term.Reads as normal-term
 use Rattle.normal.proofs.normal_term.Kinds as normal-term-kinds

@@ -3,8 +3,9 @@ use mathlib.Core.Path.{_≡_}
 use Prim.Native.Nat.{_+_, _-_, _≤_}
 use native.Mathlib.Omega.{arith}
 use lib.ListN.{length}
+use Rattle.soda.proofs.Lists.{from-drop, from-length}
+use Rattle.soda.specs.Lists.{from}
 use Rattle.normal.specs.Merging.{lead}
-use Rattle.policy.proofs.Scanning.{from, from-drop, from-length}
 use Rattle.normal.proofs.Chains.{span-within, lead-most}
 use borrow.Author.Needs.{needs}
 use Rattle.normal.proofs.first_operand.Statement.{statement}

@@ -11,18 +11,17 @@ use borrow.Author.Tests.{eqb-true, eqb-false, lt-ltb, le-ltb}
 use Rattle.soda.specs.Terms.{size}
 use Rattle.soda.specs.Words.{encode}
 use Rattle.soda.proofs.Bools.{by-test}
-use Rattle.soda.proofs.Words.{encode-length, declared-fits}
+use Rattle.soda.proofs.Words.{encode-length}
 use Rattle.policy.specs.Codes.{ACCEPTED, OUTPUT}
-use Rattle.policy.specs.Refusals.{code}
+use Rattle.policy.specs.Refusals.{Refusals, code}
 use Rattle.policy.specs.Words.{decode}
 use Rattle.policy.specs.Reading.{refusals, unitsOf, numberOf, readPolicy}
 use Rattle.normal.specs.NormalForms.{normalWords, normalRefusals, normalCode, normalOut}
 use Rattle.normal.specs.Merging.{Spelt, Written}
 use Rattle.policy.specs.declared.PolicyRead.{PolicyRead}
 use Rattle.policy.specs.declared.PolicyRead.the-variants.{Accepted, Refused}
-use Rattle.policy.proofs.Refusals.{Refusals, clear, code-front, code-behind}
-use Rattle.policy.proofs.Scanning.{counts-most}
-use Rattle.policy.proofs.Accepted.{read-is-encode, decode-is-term}
+use Rattle.policy.proofs.Refusals.{clear, code-front, code-behind}
+use Rattle.policy.proofs.Accepted.{read-is-encode, policy-is-words, decode-is-term}
 use Rattle.normal.proofs.normal_form.Statement.{statement}
 use Rattle.normal.proofs.normal_form.Tie as tie
 
@@ -70,12 +69,11 @@ module _ (users roles : ℕ) (ws out : List ℕ) where
     spelt =
         let r = read-is-encode users roles ws n m .0 e in
         let p = r .1 in
-        let c = counts-most users roles (p .counts) in
         record {
           term = r .0;
           rest = [];
           words = p .written ∙ sym (append-nil (encode (r .0)));
-          fit = declared-fits users roles (r .0) (c .0) (c .1) (p .isDeclared);
+          fit = policy-is-words users roles ws (r .0) p .fit;
           short = p .short;
           room = omega (arith, r .2);
         }

@@ -8,9 +8,11 @@ use borrow.Author.Needs.{needs}
 use borrow.Author.Tests.{not-true, not-false}
 use borrow.Fn.Kinds.{In}
 use borrow.Fn.PlainCycle.{Measures, is, falls, and}
+use Rattle.soda.proofs.Lists.{from-length}
+use Rattle.soda.specs.Lists.{from}
 use Rattle.policy.specs.Words.{first}
 use Rattle.policy.specs.Scans.{extent}
-use Rattle.policy.proofs.Scanning.{from, from-length, Word, word-known, word-unknown, no-words, first-within, scan-leaf, scan-missing, scan-one, scan-missing-second, scan-two}
+use Rattle.policy.proofs.Scanning.{Word, word-known, word-unknown, no-words, first-within, scan-leaf, scan-missing, scan-one, scan-missing-second, scan-two}
 use Rattle.policy.proofs.scan.Reads as scan
 use Rattle.policy.proofs.scan.Kinds as scan-kinds
 use Rattle.policy.proofs.+scan.Lts-scan as lts

@@ -11,7 +11,7 @@ use Rattle.policy.specs.Words.{decode}
 use Rattle.policy.specs.Reading.{lengthOk, metIn, metOf}
 use Rattle.policy.specs.Scans.{judgedIn}
 use Rattle.policy.specs.declared.Judged.{Judged}
-use Rattle.policy.proofs.Scanning.{length-most}
+use Rattle.policy.proofs.Scanning.{length-range}
 use Rattle.policy.proofs.met.Statement.{statement}
 use Rattle.policy.proofs.met.Tie as tie
 
@@ -27,7 +27,7 @@ long : (c : tie.Else1) → lengthOk (length (c .before .before .before .args .wo
 long c = sym (c .before .length-ok .ensures) ∙ not-false (c .before .length-ok .result) (c .if1 .left)
 
 judge-requires : tie.Need-judge-requires
-judge-requires c κs = length-most (length (c .before .before .before .args .words .now)) (long c)
+judge-requires c κs = length-range (length (c .before .before .before .args .words .now)) (long c) .1
 
 returns-2 : tie.Need-returns-2
 unfolding metOf

@@ -14,7 +14,7 @@ use Rattle.policy.specs.Refusals.{code}
 use Rattle.policy.specs.Scans.{judgedIn}
 use Rattle.policy.specs.Accepted.{InLayout}
 use Rattle.policy.specs.declared.Judged.{Judged}
-use Rattle.policy.proofs.Scanning.{length-least, length-most, counts-most, whole}
+use Rattle.policy.proofs.Scanning.{length-range, counts-most, whole}
 use Rattle.policy.proofs.Accepted.{lastRefusals, last-two}
 use Rattle.policy.proofs.read.Statement.{statement}
 use Rattle.policy.proofs.read.Tie as tie
@@ -71,13 +71,13 @@ late : (c : tie.Else3) → let a = given c .args in
 late c = let a = given c .args in last-two (a .users) (a .roles) (a .words .now) (in-layout c)
 
 short : (c : tie.Else3) → length (given c .args .words .now) ≤ 31
-short c = length-most (length (given c .args .words .now)) (is-long (long c))
+short c = length-range (length (given c .args .words .now)) (is-long (long c)) .1
 
 -- whether the words are one term
 is-term : (c : tie.After-scan) → let ws = given (c .before) .args .words .now in isTerm (decode ws) ≡ eqb (c .scan .result) (length ws)
 is-term c =
     let ws = given (c .before) .args .words .now in
-    whole ws (length-least (length ws) (is-long (long (c .before)))) ∙ rw (c .scan .ensures)
+    whole ws (length-range (length ws) (is-long (long (c .before))) .0) ∙ rw (c .scan .ensures)
 
 returns-4 : tie.Need-returns-4
 returns-4 c = sym (late (c .before .before) ∙ rw (is-term (c .before) ∙ ne-eqb _ _ (c .if4 .taken)))

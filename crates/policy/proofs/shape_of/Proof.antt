@@ -17,7 +17,7 @@ use Rattle.policy.specs.declared.Judged.{Judged}
 use Rattle.policy.specs.declared.KindMasks.{KindMasks}
 use Rattle.policy.specs.declared.Shape.{Shape}
 use Rattle.policy.proofs.Grammar.{length-begins, begins-whole}
-use Rattle.policy.proofs.Scanning.{length-most}
+use Rattle.policy.proofs.Scanning.{length-range}
 use Rattle.policy.proofs.Kinded.{plus-is, op-is}
 use Rattle.policy.proofs.shape_of.Statement.{statement}
 use Rattle.policy.proofs.shape_of.Tie as tie
@@ -65,7 +65,7 @@ long : (c : tie.Else1) → lengthOk (length (c .before .before .before .args .wo
 long c = sym (c .before .length-ok .ensures) ∙ not-false (c .before .length-ok .result) (c .if1 .left)
 
 short : (c : tie.Else1) → length (c .before .before .before .args .words .now) ≤ 31
-short c = length-most (length (c .before .before .before .args .words .now)) (long c)
+short c = length-range (length (c .before .before .before .args .words .now)) (long c) .1
 
 returns-2 : tie.Need-returns-2
 unfolding shapeOf

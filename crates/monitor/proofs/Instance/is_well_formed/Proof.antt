@@ -9,12 +9,12 @@ use lib.Dec.{leb}
 use lib.ListN.{length}
 use lib.Seq.{length-take-le}
 use Rattle.soda.specs.Lists.{all}
+use Rattle.policy.specs.Refusals.{Clear}
 use Rattle.policy.specs.Words.{decode}
 use Rattle.policy.specs.Reading.{refusals, unitsOf, readPolicy}
 use Rattle.policy.specs.declared.PolicyRead.the-variants.{Refused}
 use Rattle.monitor.specs.Instances.{openCode, policyOf, rowsOf, takenOf, actionOk, wellFormed}
 use Rattle.monitor.proofs.Tests.{failed, passed}
-use Rattle.policy.proofs.Refusals.{Clear}
 use Rattle.monitor.proofs.Opening.{read-refused, read-accepted, code-refused, code-accepted}
 use Rattle.monitor.proofs.Formed.{Readable, readable}
 use Rattle.monitor.proofs.Instance.is_well_formed.Statement.{statement}

@@ -3,10 +3,10 @@ use mathlib.Core.Path.{_≡_, sym, ap, _∙_}
 use Prim.Native.Nat.{ℕ}
 use native.Mathlib.Omega.{arith}
 use borrow.Author.Needs.{needs}
+use Rattle.policy.specs.Refusals.{Clear}
 use Rattle.policy.specs.Reading.{refusals, numberOf, readPolicy}
 use Rattle.policy.specs.declared.PolicyRead.the-variants.{Refused}
 use Rattle.monitor.proofs.Tests.{failed, passed}
-use Rattle.policy.proofs.Refusals.{Clear}
 use Rattle.monitor.proofs.Opening.{read-refused, read-accepted, code-refused, code-accepted, opening-refused, opening-accepted}
 use Rattle.monitor.proofs.Formed.{readable, words-few, one-each}
 use Rattle.monitor.proofs.Instance.open.Statement.{statement}

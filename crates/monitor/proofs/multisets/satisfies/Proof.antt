@@ -9,8 +9,8 @@ use borrow.Author.Tests.{lt-ltb, le-ltb, eq-eqb, ne-eqb}
 use lib.Dec.{ltb}
 use lib.ListN.{length, drop}
 use Rattle.soda.specs.Lists.{all}
-use Rattle.policy.specs.Words.{decode}
-use Rattle.workspace.specs.Workspace.{termOf, filled}
+use Rattle.policy.specs.Words.{decode, termOf}
+use Rattle.workspace.specs.Workspace.{filled}
 use Rattle.monitor.specs.declared.Answer.{Answer}
 use Rattle.monitor.specs.Instances.{isZero, openCode, fresh, opening}
 use Rattle.monitor.specs.Events.{satisfies}
