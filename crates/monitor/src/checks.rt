@@ -21,7 +21,7 @@ fn action_ok(users: u8, units: u32, a: Action) -> bool
     ensures { λ r. ⌜ r ≡ actionOk users units a ⌝ }
 {
     let met = a.met;
-    (a.user < users) & (met & units == met)
+    (a.user < users as u32) & (met & units == met)
 }
 
 // Whether each taken action is so.

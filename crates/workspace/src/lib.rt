@@ -17,7 +17,7 @@ use policy::Shape;
 // A taken action (document 01): its user, and bit i of met for whether the user met the unit term at word i.
 #[repr(C)]
 pub struct Action {
-    pub user: u8,
+    pub user: u32,
     pub met: u32,
 }
 
@@ -43,6 +43,7 @@ impl Action {
     pub fn new(user: u8, met: u32) -> Self
         ensures { λ r. ⌜ r ≡ record { user = user; met = met } ⌝ }
     {
+        let user = user as u32;
         Self { user, met }
     }
 }
