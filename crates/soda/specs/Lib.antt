@@ -16,4 +16,3 @@ pub mod Normal
 -- What is proved of them.
 pub mod Accuracy
 pub mod EqualForms
--- For private contracts.

@@ -19,12 +19,12 @@ use Rattle.soda.proofs.Bits.{bit-of-zero}
 use Rattle.policy.specs.Shapes.{rightSides}
 use Rattle.policy.specs.declared.Shape.{Shape}
 use Rattle.workspace.specs.Workspace.{range, judged, rowOf, column, tableOf, filled}
-use Rattle.workspace.specs.Steps.{Masked, Ascending, Listing, Operators, Coded, Suited, Tables, Known, Cleared, Entered, AddedAll, RowsStand, Shaped}
+use Rattle.workspace.specs.Private.{Masked, Ascending, Listing, Operators, Coded, Suited, Tables, Known, Cleared, Entered, AddedAll, RowsStand, Shaped}
 use Rattle.workspace.specs.declared.Action.{Action}
-use Rattle.workspace.specs.declared.Masks.{Masks}
+use Rattle.workspace.specs.declared.masks.Masks.{Masks}
 use Rattle.workspace.proofs.Digits.{lt-or-le, bit-ones}
 use Rattle.workspace.proofs.Select.{select-none, select-take}
-use Rattle.workspace.proofs.Standing.{rights-length, ascending}
+use Rattle.workspace.proofs.Subterms.{rights-length, ascending}
 use Rattle.workspace.proofs.Complete.{listing-same}
 use Rattle.workspace.proofs.Entries.{length-range, map-range, kept-more}
 

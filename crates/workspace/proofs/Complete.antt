@@ -13,12 +13,12 @@ use lib.Seq.{getD-set-same, getD-set-other}
 use Rattle.soda.specs.Bits.{bit}
 use Rattle.soda.proofs.Bools.{not-so, or-left, or-right, and-join}
 use Rattle.soda.proofs.Bits.{bit-of-zero}
-use Rattle.workspace.specs.Steps.{place, Ascending, Listing, no-words, skips, lists, Operators, sides, Finished}
+use Rattle.workspace.specs.Private.{place, Ascending, Listing, no-words, skips, lists, Operators, bySides, Finished}
 use Rattle.workspace.proofs.Digits.{bit-and, bit-or, bit-shr, bit-word}
 
 -- one word done: word i by its sides, the right one at k, and nothing else changes
 pub record Placed (either both row right i k row′ right′ : ℕ) : Type 0 where
-  pub here : (e : Bool) → bit (place e i) row′ ≡ (bit (place e i) row || sides e row either both i k)
+  pub here : (e : Bool) → bit (place e i) row′ ≡ (bit (place e i) row || bySides e row either both i k)
   pub other : (e : Bool) (j : ℕ) → j < 32 → (j ≡ i → ⊥) → bit (place e j) row′ ≡ bit (place e j) row
   pub right-here : (e : Bool) → bit (place e i) right ≡ false → So (bit (place true i) either) → bit (place e i) right′ ≡ bit (place e k) row
   pub right-other : (e : Bool) (j : ℕ) → j < 32 → (j ≡ i → ⊥) → bit (place e j) right′ ≡ bit (place e j) right
@@ -79,7 +79,7 @@ module _ (either both row right i word : ℕ) (h : i < 31) (is : word ≡ 429496
 pub record Done (base either both : ℕ) (places : List ℕ) (row right i : ℕ) : Type 0 where
   pub bound : i ≤ length places
   pub low : (e : Bool) (j : ℕ) → j < i → bit (place e j) row ≡ bit (place e j) base
-  pub rule : (e : Bool) (j : ℕ) → i ≤ j → j < length places → bit (place e j) row ≡ (bit (place e j) base || sides e row either both j (getD places j 0))
+  pub rule : (e : Bool) (j : ℕ) → i ≤ j → j < length places → bit (place e j) row ≡ (bit (place e j) base || bySides e row either both j (getD places j 0))
   pub past : (e : Bool) (j : ℕ) → length places ≤ j → j < 32 → bit (place e j) row ≡ bit (place e j) base
   pub clear : (e : Bool) (j : ℕ) → j < i → bit (place e j) right ≡ false
   pub sided : (e : Bool) (j : ℕ) → i ≤ j → j < length places → So (bit (place true j) either) → bit (place e j) right ≡ bit (place e (getD places j 0)) row
@@ -123,12 +123,12 @@ module _ (base either both : ℕ) (places : List ℕ) where
       right-kept : (e : Bool) (j : ℕ) → i ≤ j → j < length places → bit (place e (getD places j 0)) row′ ≡ bit (place e (getD places j 0)) row
       right-kept e j l k = p .other e (getD places j 0) (asc .inside j k) (λ q. omega (arith, asc .behind j k))
 
-      kept : (e : Bool) (j : ℕ) → i ≤ j → j < length places → sides e row either both j (getD places j 0) ≡ sides e row′ either both j (getD places j 0)
+      kept : (e : Bool) (j : ℕ) → i ≤ j → j < length places → bySides e row either both j (getD places j 0) ≡ bySides e row′ either both j (getD places j 0)
       kept e j l k = sym (ap₂ (λ x y. (bit (place e j) either && (x || y)) || (bit (place e j) both && (x && y))) (left-kept e j l k) (right-kept e j l k))
 
-      rule : (e : Bool) (j : ℕ) → j < length places → (i ≡ j) ⊎ (i < j) → bit (place e j) row′ ≡ (bit (place e j) base || sides e row′ either both j (getD places j 0))
+      rule : (e : Bool) (j : ℕ) → j < length places → (i ≡ j) ⊎ (i < j) → bit (place e j) row′ ≡ (bit (place e j) base || bySides e row′ either both j (getD places j 0))
       rule e j k (inl q) =
-          subst (λ m. bit (place e m) row′ ≡ (bit (place e m) base || sides e row′ either both m (getD places m 0))) q
+          subst (λ m. bit (place e m) row′ ≡ (bit (place e m) base || bySides e row′ either both m (getD places m 0))) q
           (p .here e ∙ ap₂ _||_ (d .low e i (omega arith)) (kept e i (omega arith) (omega arith)))
       rule e j k (inr l) =
           p .other e j (omega (arith, asc .short)) (λ q. omega arith) ∙ d .rule e j (omega arith) k ∙ ap (λ x. bit (place e j) base || x) (kept e j (omega arith) k)

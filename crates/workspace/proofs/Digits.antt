@@ -14,7 +14,7 @@ use lib.Pow.{pow-pos, shr-shr, high, low, shl-exact}
 use Rattle.soda.specs.Bits.{bit, number, setBit}
 use Rattle.soda.proofs.Bools.{Order, less, same, more, order}
 use Rattle.soda.proofs.Bits.{bit-suc, bit-of-zero, bit-setBit, bit-number, some-bit}
-use Rattle.workspace.specs.Steps.{place, Packed}
+use Rattle.workspace.specs.Private.{place, Packed}
 
 -- two cases of two numbers
 pub lt-or-le : (m n : ℕ) → (m < n) ⊎ (n ≤ m)

@@ -19,9 +19,9 @@ use Rattle.soda.proofs.Bools.{same-test, eq-so, so-eq}
 use Rattle.soda.proofs.Bits.{bit-number}
 use Rattle.soda.proofs.Splits.{any-append}
 use Rattle.workspace.specs.Workspace.{range, select, judged, rowOf}
-use Rattle.workspace.specs.Steps.{place, Column, Next, Suited, Acting, Noted, RowIs, RowOf, Tables, tables, Long, Entry, Known, Cleared, Kept, Entered, Added, AddedAll}
+use Rattle.workspace.specs.Private.{place, Unpacked, Next, Suited, Acting, Noted, RowIs, RowOf, Tables, tables, Long, Entry, Known, Cleared, Kept, Entered, Added, AddedAll}
 use Rattle.workspace.specs.declared.Action.{Action}
-use Rattle.workspace.specs.declared.Masks.{Masks}
+use Rattle.workspace.specs.declared.masks.Masks.{Masks}
 use Rattle.workspace.proofs.Digits.{lt-or-le, bit-and, bit-or, bit-shr, bit-power, bit-ext}
 use Rattle.workspace.proofs.Select.{select-next}
 
@@ -40,7 +40,7 @@ number-lt [] = omega arith
 number-lt (true ∷ l) = omega (arith, number-lt l, pow-suc 2 (length l))
 number-lt (false ∷ l) = omega (arith, number-lt l, pow-suc 2 (length l))
 
-row-number : (e : Bool) (φ : Term) (l : List Action) (s row right w : ℕ) → size φ ≤ 31 → RowIs φ (select s l) row right → Column e row w → w < 2 ^ 32 → w ≡ rowOf e φ l s
+row-number : (e : Bool) (φ : Term) (l : List Action) (s row right w : ℕ) → size φ ≤ 31 → RowIs φ (select s l) row right → Unpacked e row w → w < 2 ^ 32 → w ≡ rowOf e φ l s
 unfolding rowOf
 row-number e φ l s row right w short r c h = bit-ext 32 w (number digits) h fits (λ i b. c i b ∙ at i b (lt-or-le i (size φ)) ∙ sym (bit-number digits i))
   where
@@ -63,7 +63,7 @@ before {x} {s} h l v = getD-set-other l s x v 0 (λ q. omega arith)
 
 module _ (m : Masks) (ops : List ℕ) (s who met : ℕ) (t : Tables) (row right low high : ℕ)
     (h : s < 4096) (n : Long (s + 1) t) (r : RowOf m ops (t .left) (t .right) (t .users) met s row right)
-    (is-low : Column false row low) (is-high : Column true row high) (low-fits : low < 2 ^ 32) (high-fits : high < 2 ^ 32) where
+    (is-low : Unpacked false row low) (is-high : Unpacked true row high) (low-fits : low < 2 ^ 32) (high-fits : high < 2 ^ 32) where
   abbrev pub after : Tables
   after = tables (set (t .left) s (row / 2 ^ 1)) (set (t .right) s right) (set (t .users) s who) (set (t .met) s met) (set (set (t .workspace) s low) (4096 + s) high)
 

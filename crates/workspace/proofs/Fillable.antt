@@ -17,9 +17,9 @@ use Rattle.policy.specs.Reading.{lengthOk}
 use Rattle.policy.specs.Shapes.{rightSides, blankShape, termShape, shapeIn, shapeOf}
 use Rattle.policy.specs.declared.Shape.{Shape}
 use Rattle.workspace.specs.Workspace.{isFillable, filled, fillOf}
-use Rattle.workspace.specs.Steps.{Shaped}
+use Rattle.workspace.specs.Private.{Shaped}
 use Rattle.workspace.specs.declared.Action.{Action}
-use Rattle.workspace.proofs.Standing.{rights-length}
+use Rattle.workspace.proofs.Subterms.{rights-length}
 
 abbrev pub users-ok : List Action → Bool
 users-ok l = all (λ a. ltb (a .user) 16) l

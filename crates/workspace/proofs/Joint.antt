@@ -19,7 +19,7 @@ use Rattle.soda.proofs.Splits.{split-swap}
 use Rattle.soda.proofs.Tables.{Judgement, Halves, together-in, together-out, apart-in, apart-out}
 use Rattle.soda.proofs.Joins.{disjoint-in, disjoint-out}
 use Rattle.workspace.specs.Workspace.{select}
-use Rattle.workspace.specs.Steps.{Part}
+use Rattle.workspace.specs.Private.{Part}
 use Rattle.workspace.proofs.Digits.{bit-and, no-bits}
 use Rattle.workspace.proofs.Submask.{within-le}
 use Rattle.workspace.proofs.Select.{select-none, cut, Cut, uncut}

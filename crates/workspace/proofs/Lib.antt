@@ -3,9 +3,9 @@ pub mod Submask
 pub mod Select
 pub mod Walk
 pub mod Complete
-pub mod Standing
+pub mod Subterms
 pub mod Joint
-pub mod Rows
+pub mod Judging
 pub mod Entries
 pub mod Columns
 pub mod Examples

@@ -14,7 +14,7 @@ use lib.Pow.{pow-pos}
 use Rattle.soda.specs.Bits.{bit}
 use Rattle.soda.proofs.Bools.{and-split, and-join, or-split, or-left, or-right, Order, less, same, more, order}
 use Rattle.soda.proofs.Bits.{bit-of-zero}
-use Rattle.workspace.specs.Steps.{Part, Parted, Joined, Next, matched, allowed}
+use Rattle.workspace.specs.Private.{Part, Parted, Joined, Next, matched, allowed}
 use Rattle.workspace.proofs.Digits.{lt-or-le, bit-and, bit-or}
 use Rattle.workspace.proofs.Submask.{Within, Lowest, within-le, and-within, rest-within, walk, within-more, within-less}
 

@@ -1,2 +1,2 @@
 pub mod Workspace
-pub mod Steps
+pub mod Private

@@ -1,5 +1,5 @@
 -- The workspace (document 01: work room): for each set of actions, which terms of the policy it satisfies and which are possible.
-use mathlib.Core.Bool.{Bool, true, false, not, _&&_, cond}
+use mathlib.Core.Bool.{Bool, true, false, _&&_, cond}
 use mathlib.Core.List.{List, [], _∷_, _++_, map}
 use mathlib.Core.Option.{Option, some, none}
 use Prim.Native.Nat.{ℕ, zero, suc, _-_, _/_, _^_}

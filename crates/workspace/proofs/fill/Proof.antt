@@ -4,7 +4,7 @@ use mathlib.Core.Bool.{So}
 use lib.ListN.{take}
 use borrow.Author.Needs.{needs}
 use borrow.Author.Tests.{not-true, not-false}
-use Rattle.workspace.specs.Steps.{Shaped}
+use Rattle.workspace.specs.Private.{Shaped}
 use Rattle.workspace.proofs.Fillable.{users-ok, Readable, readable, is-shaped, too-many, unknown-user, too-short, no-policy, is-filled}
 use Rattle.workspace.proofs.fill.Statement.{statement}
 use Rattle.workspace.proofs.fill.Tie as tie

@@ -1,0 +1,46 @@
+-- Each mask is packed from masks of the shape.
+use mathlib.Core.Path.{_≡_, subst}
+use Prim.Native.Nat.{ℕ, _-_, _*_, _%_, _≤_, _^_}
+use native.Mathlib.Omega.{arith}
+use lib.Pow.{pow-pos}
+use borrow.Author.Needs.{needs}
+use Rattle.workspace.specs.Private.{Packed}
+use Rattle.workspace.proofs.Digits.{one-shl}
+use Rattle.workspace.proofs.masks.masks_of.Statement.{statement}
+use Rattle.workspace.proofs.masks.masks_of.Tie as tie
+
+shifted : (n : ℕ) → n ≤ 31 → 1 * 2 ^ n % 2 ^ 32 ≡ 2 ^ n
+shifted n h = one-shl 32 n (omega arith)
+
+sub-packed : tie.Need-sub-packed
+sub-packed c = omega (arith, shifted (c .before .before .args .shape .words) (c .before .before .pre), pow-pos (c .before .before .args .shape .words))
+
+returns : tie.Need-returns
+returns c =
+    let start = c .before .before .before .before .before .before .before .before .before .before in
+    let first = c .before .before .before .before .before .before .before .packed in
+    record {
+      first = subst (λ n. Packed 0 (n - 1) (first .result)) (shifted (start .args .shape .words) (start .pre)) (first .ensures);
+      units = c .before .before .before .before .before .before .packed2 .ensures;
+      plus = c .before .before .before .before .before .packed3 .ensures;
+      either = c .before .before .before .packed4 .ensures;
+      both = c .before .before .packed5 .ensures;
+      joint = c .before .packed6 .ensures;
+      anyone = c .packed7 .ensures;
+    }
+
+pub masks-of-spec : {M : Type 1} → statement M
+masks-of-spec =
+    tie.close
+    (tie.spec
+    (λ c. search needs)
+    (λ c. search needs)
+    sub-packed
+    (λ c κs. search needs)
+    (λ c κs. search needs)
+    (λ c κs. search needs)
+    (λ c κs. search needs)
+    (λ c κs. search needs)
+    (λ c κs. search needs)
+    (λ c κs. search needs)
+    returns)

@@ -1,0 +1,219 @@
+-- What the fill's private functions compute: the digits of packed rows, the parts of a set, and what the tables hold.
+use mathlib.Core.Path.{_≡_}
+use mathlib.Core.Bool.{Bool, true, false, So, _&&_, _||_, cond}
+use mathlib.Core.List.{List}
+use Prim.Native.Nat.{ℕ, suc, _+_, _-_, _*_, _^_, _≤_, _<_}
+use lib.Bits.{bitAnd, bitOr}
+use lib.Dec.{eqb}
+use lib.ListN.{length, getD}
+use Rattle.soda.specs.Bits.{bit}
+use Rattle.soda.specs.Lists.{all}
+use Rattle.soda.specs.Terms.{Term, together, apart, wellFormed, size, termAt}
+use Rattle.soda.specs.Tables.{acts}
+use Rattle.policy.specs.Shapes.{isOp, rightSides, termShape}
+use Rattle.policy.specs.declared.Shape.{Shape}
+use Rattle.workspace.specs.Workspace.{select, judged, rowOf}
+use Rattle.workspace.specs.declared.Action.{Action}
+use Rattle.workspace.specs.declared.masks.Masks.{Masks}
+
+-- ── packed rows ──
+-- where word i stands in a row: satisfied in digits 0 to 31, possible in digits 32 to 63
+abbrev pub place : Bool → ℕ → ℕ
+place e i = cond e 32 0 + i
+
+-- r packs a mask for each column
+abbrev pub Packed : ℕ → ℕ → ℕ → Type 0
+Packed satisfied possible r = (e : Bool) (i : ℕ) → i < 32 → bit (place e i) r ≡ bit i (cond e possible satisfied)
+
+-- r is one column of a row
+abbrev pub Unpacked : Bool → ℕ → ℕ → Type 0
+Unpacked e row r = (i : ℕ) → i < 32 → bit i r ≡ bit (place e i) row
+
+-- the masks of a shape: for possible, one side is enough at together and apart too, since the other may stay without actions
+pub record Masked (p : Shape) (m : Masks) : Type 0 where
+  pub first : Packed 0 (2 ^ p .words - 1) (m .first)
+  pub units : Packed (p .units) (p .units) (m .units)
+  pub plus : Packed (p .plus) (p .plus) (m .plus)
+  pub either : Packed (p .either) (bitOr (p .either) (bitOr (p .together) (p .apart))) (m .either)
+  pub both : Packed (p .both) (p .both) (m .both)
+  pub joint : Packed (bitOr (p .together) (p .apart)) (bitOr (p .together) (p .apart)) (m .joint)
+  pub anyone : Packed (p .together) (p .together) (m .anyone)
+
+-- ── the parts of a set ──
+-- x is a part of s, neither empty nor s
+pub record Part (x s : ℕ) : Type 0 where
+  pub some : 0 < x
+  pub less : x < s
+  pub within : bitAnd x s ≡ x
+
+-- digit q of r says whether f holds at q of the part x of s or of the rest
+abbrev pub Parted : (ℕ → ℕ → Bool) → ℕ → ℕ → ℕ → Type 0
+Parted f s x r = (q : ℕ) → bit q r ≡ (f x q || f (s - x) q)
+
+-- digit q of r says whether f holds at q of some part that is neither empty nor s
+pub record Joined (f : ℕ → ℕ → Bool) (s r : ℕ) : Type 0 where
+  pub found : (q : ℕ) → So (bit q r) → (x : ℕ) × Part x s × So (f x q)
+  pub each : (q x : ℕ) → Part x s → So (f x q) → So (bit q r)
+
+-- s is t with one action more, behind all of t's
+pub record Next (s t : ℕ) : Type 0 where
+  pub last : ℕ
+  pub is : s ≡ 2 ^ last + t
+  pub below : t < 2 ^ last
+
+-- the part x at a word's left side, and the rest of s at its right side
+abbrev pub matched : List ℕ → List ℕ → ℕ → ℕ → ℕ → Bool
+matched left right s x q = bit q (getD left x 0) && bit q (getD right (s - x) 0)
+
+-- no user acts in both parts, or the word is one of those where that does not matter
+abbrev pub allowed : List ℕ → ℕ → ℕ → ℕ → ℕ → Bool
+allowed users anyone s x q = eqb (bitAnd (getD users x 0) (getD users (s - x) 0)) 0 || bit q anyone
+
+-- both, at the words of together and apart
+abbrev pub jointly : Masks → List ℕ → List ℕ → List ℕ → ℕ → ℕ → ℕ → Bool
+jointly m left right users s x q = bit q (m .joint) && (matched left right s x q && allowed users (m .anyone) s x q)
+
+-- ── a row from its own digits ──
+-- what the rows "unit" and "plus" give: `met` packs the unit terms that all actions met, and `ones` is the number of the actions
+abbrev pub based : ℕ → ℕ → ℕ → ℕ → ℕ → Bool
+based units plus met ones q = (eqb ones 1 && (bit q met && bit q units)) || (bit (1 + q) met && bit q plus)
+
+-- each right side begins behind its word
+pub record Ascending (places : List ℕ) : Type 0 where
+  pub short : length places ≤ 31
+  pub behind : (i : ℕ) → i < length places → i < getD places i 0
+  pub inside : (i : ℕ) → i < length places → getD places i 0 < 32
+
+-- the first n of `ops` are the operators among the first w words: each as its place and, times 32, how far behind it its right side begins
+pub data Listing (either both : ℕ) (places ops : List ℕ) : ℕ → ℕ → Type 0 where
+  no-words : Listing either both places ops 0 0
+  skips : (n w : ℕ) → Listing either both places ops n w → bitAnd (bitOr either both) (4294967297 * 2 ^ w) ≡ 0 → Listing either both places ops n (suc w)
+  lists : (n w : ℕ) → Listing either both places ops n w → getD ops n 0 ≡ w + 32 * (getD places w 0 - w) → Listing either both places ops (suc n) (suc w)
+
+-- each is a place and a distance below 32
+abbrev pub Coded : List ℕ → Type 0
+Coded ops = (j : ℕ) → j < length ops → getD ops j 0 < 1024
+
+-- the first n of `ops` are the operators among all words
+pub record Operators (either both : ℕ) (places ops : List ℕ) (n : ℕ) : Type 0 where
+  pub bound : n ≤ 31
+  pub listing : Listing either both places ops n (length places)
+  pub coded : (j : ℕ) → j < n → getD ops j 0 < 1024
+
+-- word i of a column by its sides, which stand at words 1 + i and k
+abbrev pub bySides : Bool → ℕ → ℕ → ℕ → ℕ → ℕ → Bool
+bySides e row either both i k =
+    (bit (place e i) either && (bit (place e (1 + i)) row || bit (place e k) row))
+    || (bit (place e i) both && (bit (place e (1 + i)) row && bit (place e k) row))
+
+-- every word of a row agrees with its sides, and `right` has the digits of the right sides
+pub record Finished (base either both : ℕ) (places : List ℕ) (row right : ℕ) : Type 0 where
+  pub rule : (e : Bool) (i : ℕ) → i < length places → bit (place e i) row ≡ (bit (place e i) base || bySides e row either both i (getD places i 0))
+  pub past : (e : Bool) (i : ℕ) → length places ≤ i → i < 32 → bit (place e i) row ≡ bit (place e i) base
+  pub sided : (e : Bool) (i : ℕ) → i < length places → So (bit (place true i) either) → bit (place e i) right ≡ bit (place e (getD places i 0)) row
+
+-- ── the tables ──
+-- the masks and the operators are those of the policy φ
+pub record Suited (φ : Term) (m : Masks) (ops : List ℕ) : Type 0 where
+  pub formed : So (wellFormed φ)
+  pub short : size φ ≤ 31
+  pub masked : Masked (termShape φ) m
+  pub listed : Listing (m .either) (m .both) (rightSides 0 φ) ops (length ops) (size φ)
+
+-- the users of a list of actions, as a mask, and the unit terms that all of them met
+abbrev pub Acting : List Action → ℕ → Type 0
+Acting l users = (u : ℕ) → bit u users ≡ acts (λ a. a .user) u l
+
+abbrev pub Noted : List Action → ℕ → Type 0
+Noted l met = (i : ℕ) → i < 32 → bit i met ≡ all (λ a. bit i (a .met)) l
+
+-- the digits at the right sides of together and apart
+abbrev pub Rights : Term → List Action → ℕ → Type 0
+Rights φ l right =
+    (e : Bool) (i : ℕ) → i < size φ → So (isOp together (termAt φ i) || isOp apart (termAt φ i))
+    → bit (place e i) right ≡ judged e φ l (getD (rightSides 0 φ) i 0)
+
+-- the row of a list of actions
+pub record RowIs (φ : Term) (l : List Action) (row right : ℕ) : Type 0 where
+  pub here : (e : Bool) (i : ℕ) → i < size φ → bit (place e i) row ≡ judged e φ l i
+  pub past : (e : Bool) (i : ℕ) → size φ ≤ i → i < 32 → bit (place e i) row ≡ false
+  pub sided : Rights φ l right
+
+-- what a set's part is asked for: its row at the words' left sides and at the right sides of together and apart, and its users
+pub record Sides (φ : Term) (l : List Action) (left right users : ℕ) : Type 0 where
+  pub lefts : (e : Bool) (i : ℕ) → 1 + i < size φ → bit (place e i) left ≡ judged e φ l (1 + i)
+  pub rights : Rights φ l right
+  pub acting : Acting l users
+
+-- what a row must be, whatever the policy and the actions
+abbrev pub RowOf : Masks → List ℕ → List ℕ → List ℕ → List ℕ → ℕ → ℕ → ℕ → ℕ → Type 0
+RowOf m ops left right users met s row row-right =
+    (φ : Term) (l : List Action) → Suited φ m ops → s < 2 ^ length l
+    → ((x : ℕ) → x < s → Sides φ (select x l) (getD left x 0) (getD right x 0) (getD users x 0)) → Noted (select s l) met → RowIs φ (select s l) row row-right
+
+-- the tables: for each set the digits at left and right sides, its users, what all its actions met; and the workspace
+pub record Tables : Type 0 where
+  pub left : List ℕ
+  pub right : List ℕ
+  pub users : List ℕ
+  pub met : List ℕ
+  pub workspace : List ℕ
+
+abbrev pub tables : List ℕ → List ℕ → List ℕ → List ℕ → List ℕ → Tables
+tables left right users met workspace = record { left = left; right = right; users = users; met = met; workspace = workspace }
+
+-- each has a place for every set below n
+pub record Long (n : ℕ) (t : Tables) : Type 0 where
+  pub left : n ≤ length (t .left)
+  pub right : n ≤ length (t .right)
+  pub users : n ≤ length (t .users)
+  pub met : n ≤ length (t .met)
+  pub workspace : 8192 ≤ length (t .workspace)
+
+-- what stands in the tables for the set x of the actions l
+pub record Entry (φ : Term) (l : List Action) (t : Tables) (x : ℕ) : Type 0 where
+  pub sides : Sides φ (select x l) (getD (t .left) x 0) (getD (t .right) x 0) (getD (t .users) x 0)
+  pub noted : Noted (select x l) (getD (t .met) x 0)
+  pub satisfied : getD (t .workspace) x 0 ≡ rowOf false φ l x
+  pub possible : getD (t .workspace) (4096 + x) 0 ≡ rowOf true φ l x
+
+abbrev pub Known : Term → List Action → Tables → ℕ → Type 0
+Known φ l t n = (x : ℕ) → x < n → Entry φ l t x
+
+-- the first n words are zero, and the others stay
+pub record Cleared (n : ℕ) (before after : List ℕ) : Type 0 where
+  pub zeros : (k : ℕ) → k < n → getD after k 0 ≡ 0
+  pub stay : (k : ℕ) → n ≤ k → getD after k 0 ≡ getD before k 0
+
+-- the workspace stays but for the words of the sets below n
+pub record Kept (n : ℕ) (before after : List ℕ) : Type 0 where
+  pub low : (k : ℕ) → n ≤ k → k < 4096 → getD after k 0 ≡ getD before k 0
+  pub high : (k : ℕ) → 4096 + n ≤ k → getD after k 0 ≡ getD before k 0
+
+-- the set s is entered too: its users are `who`, and its actions all met `met`
+pub record Entered (m : Masks) (ops : List ℕ) (s who met : ℕ) (t t′ : Tables) : Type 0 where
+  pub known : (φ : Term) (l : List Action) → Suited φ m ops → s < 2 ^ length l → Acting (select s l) who → Noted (select s l) met → Known φ l t s → Known φ l t′ (s + 1)
+  pub kept : Kept (s + 1) (t .workspace) (t′ .workspace)
+
+-- the sets below n are entered, for actions of which `a` stands at place j
+pub record Added (m : Masks) (ops : List ℕ) (j : ℕ) (a : Action) (n : ℕ) (t t′ : Tables) : Type 0 where
+  pub known : (φ : Term) (l : List Action) → Suited φ m ops → j < length l → getD l j (record { user = 0; met = 0 }) ≡ a → Known φ l t (2 ^ j) → Known φ l t′ n
+  pub kept : Kept n (t .workspace) (t′ .workspace)
+
+-- the sets below n are entered, where the empty set was
+pub record AddedAll (m : Masks) (ops : List ℕ) (l : List Action) (n : ℕ) (t t′ : Tables) : Type 0 where
+  pub known : (φ : Term) → Suited φ m ops → Known φ l t 1 → Known φ l t′ n
+  pub kept : Kept n (t .workspace) (t′ .workspace)
+
+-- the workspace has the rows of the sets below n, and keeps its other words
+pub record RowsStand (m : Masks) (ops : List ℕ) (l : List Action) (n : ℕ) (before after : List ℕ) : Type 0 where
+  pub satisfied : (φ : Term) → Suited φ m ops → (x : ℕ) → x < n → getD after x 0 ≡ rowOf false φ l x
+  pub possible : (φ : Term) → Suited φ m ops → (x : ℕ) → x < n → getD after (4096 + x) 0 ≡ rowOf true φ l x
+  pub kept : Kept n before after
+
+-- the shape is that of a well-formed term of at most 31 words
+pub record Shaped (p : Shape) : Type 0 where
+  pub term : Term
+  pub is : p ≡ termShape term
+  pub formed : So (wellFormed term)
+  pub short : size term ≤ 31

@@ -1,0 +1,99 @@
+// The row of a set, from the rows of its parts and its own digits.
+ghost use mathlib.Core.Path.{_≡_};
+ghost use mathlib.Core.List.{List};
+ghost use Prim.Native.Nat.{ℕ, _≤_, _<_};
+ghost use lib.ListN.{length};
+ghost use Rattle.soda.specs.Bits.{bit};
+ghost use Rattle.workspace.specs.Private.{Next, based, Ascending, Listing, Operators, Coded, Finished, RowOf};
+use super::masks::Masks;
+use super::masks::packed;
+use super::parts::joints;
+
+// A row, and at each operator's word the bit of its right side.
+pub(crate) struct Row {
+    pub bits: u64,
+    pub right: u64,
+}
+
+// The words by the rows unit and plus; met packs the unit terms that all actions met, and ones is the number of the actions.
+fn base_of(units: u64, plus: u64, met: u64, ones: u32) -> u64
+    ensures { λ r. ⌜ ((q : ℕ) → bit q r ≡ based units plus met ones q) ⌝ }
+{
+    let several = (met >> 1) & plus;
+    if ones == 1 {
+        (met & units) | several
+    } else {
+        several
+    }
+}
+
+// The operators among the words, from the first to the last; returns how many. Each is its word's place and, times 32, how far
+// behind it its right side begins. Made once, so that a row visits no other words.
+pub(crate) fn operators(either: u64, both: u64, places: &[u8], ops: &mut [u16]) -> usize
+    requires { ⌜ Ascending (now places) × (31 ≤ length (now ops)) ⌝ }
+    ensures { λ r. ⌜ Operators either both (now (places .entry)) (now (ops .exit)) r ⌝ }
+{
+    let mut n: usize = 0;
+    let mut i: usize = 0;
+    while i < places.len() {
+        let at = i;
+        i = i + 1;
+        let word: u64 = 0x1_0000_0001 << at;
+        if (either | both) & word != 0 {
+            ops[n] = at as u16 + 32 * (places[at] as u16 - at as u16);
+            n = n + 1;
+        }
+    }
+    n
+}
+
+// A row completed from the last operator to the first by the sides, which stand behind their word.
+fn finish(base: u64, either: u64, both: u64, ops: &[u16]) -> Row
+    requires { ⌜ Coded (now ops) ⌝ }
+    ensures { λ r. ⌜ ((places : List ℕ) → Ascending places → Listing either both places (now (ops .entry)) (length (now (ops .entry))) (length places)
+        → Finished base either both places (r .bits) (r .right)) ⌝ }
+{
+    let mut bits = base;
+    let mut at_right: u64 = 0;
+    let mut n = ops.len();
+    while 0 < n {
+        n = n - 1;
+        let x = ops[n];
+        let word: u64 = 0x1_0000_0001 << (x & 31);
+        let l = bits >> 1;
+        let r = bits >> (x >> 5);
+        bits = bits | (((either & word) & (l | r)) | ((both & word) & (l & r)));
+        at_right = at_right | (r & word);
+    }
+    Row {
+        bits,
+        right: at_right,
+    }
+}
+
+// The row of the set s, from the rows of its parts; t is s without its last action. No action satisfies nothing and is possible
+// for every term.
+pub(crate) fn row_of(
+    m: Masks,
+    ops: &[u16],
+    left: &[u64],
+    right: &[u64],
+    users: &[u16],
+    met: u32,
+    s: usize,
+    t: usize,
+) -> Row
+    requires { ⌜ (s < 4096) × (s < length (now left)) × (s < length (now right)) × (s < length (now users)) × Coded (now ops) × (0 < s → Next s t) ⌝ }
+    ensures { λ r. ⌜ RowOf m (now (ops .entry)) (now (left .entry)) (now (right .entry)) (now (users .entry)) met s (r .bits) (r .right) ⌝ }
+{
+    let ones = u32::count_ones(s as u32);
+    if ones == 0 {
+        return Row {
+            bits: m.first,
+            right: m.first,
+        };
+    }
+    let joint = joints(m, left, right, users, s, t);
+    let base = base_of(m.units, m.plus, packed(met, met), ones) | joint;
+    finish(base, m.either, m.both, ops)
+}

@@ -1,0 +1,124 @@
+// The tables in three sizes, and the workspace cleared and filled by a policy's shape.
+ghost use mathlib.Core.Path.{_≡_};
+ghost use mathlib.Core.Bool.{true};
+ghost use Prim.Native.Nat.{_≤_, _^_};
+ghost use lib.Dec.{ltb};
+ghost use lib.ListN.{length, take};
+ghost use Rattle.soda.specs.Lists.{all};
+ghost use Rattle.workspace.specs.Workspace.{filled};
+ghost use Rattle.workspace.specs.Private.{Coded, Cleared, RowsStand, Shaped};
+use super::Action;
+use super::masks::Masks;
+use super::masks::masks_of;
+use super::rows::operators;
+use super::tables::fill_tables;
+use policy::Shape;
+
+// Zero in the first 8,192 words.
+fn clear(workspace: &mut [u32])
+    requires { ⌜ 8192 ≤ length (now workspace) ⌝ }
+    ensures { λ _. ⌜ Cleared 8192 (now (workspace .entry)) (now (workspace .exit)) ⌝ }
+{
+    let mut k: usize = 0;
+    while k < 8192 {
+        workspace[k] = 0;
+        k = k + 1;
+    }
+}
+
+// With a place in each table for the sets of six actions.
+fn fill_six(m: Masks, ops: &[u16], actions: [Action; 12], taken: u8, workspace: &mut [u32])
+    requires { ⌜ (taken ≤ 6) × (all (λ a. ltb (a .user) 16) (take taken actions) ≡ true) × Coded (now ops) × (8192 ≤ length (now workspace)) ⌝ }
+    ensures { λ _. ⌜ RowsStand m (now (ops .entry)) actions (2 ^ taken) (now (workspace .entry)) (now (workspace .exit)) ⌝ }
+{
+    let mut left = [0u64; 64];
+    let mut right = [0u64; 64];
+    let mut users = [0u16; 64];
+    let mut met = [0u32; 64];
+    fill_tables(
+        m,
+        ops,
+        actions,
+        taken,
+        &mut left,
+        &mut right,
+        &mut users,
+        &mut met,
+        workspace,
+    );
+}
+
+// The same of nine actions.
+fn fill_nine(m: Masks, ops: &[u16], actions: [Action; 12], taken: u8, workspace: &mut [u32])
+    requires { ⌜ (taken ≤ 9) × (all (λ a. ltb (a .user) 16) (take taken actions) ≡ true) × Coded (now ops) × (8192 ≤ length (now workspace)) ⌝ }
+    ensures { λ _. ⌜ RowsStand m (now (ops .entry)) actions (2 ^ taken) (now (workspace .entry)) (now (workspace .exit)) ⌝ }
+{
+    let mut left = [0u64; 512];
+    let mut right = [0u64; 512];
+    let mut users = [0u16; 512];
+    let mut met = [0u32; 512];
+    fill_tables(
+        m,
+        ops,
+        actions,
+        taken,
+        &mut left,
+        &mut right,
+        &mut users,
+        &mut met,
+        workspace,
+    );
+}
+
+// The same of twelve actions.
+fn fill_twelve(m: Masks, ops: &[u16], actions: [Action; 12], taken: u8, workspace: &mut [u32])
+    requires { ⌜ (taken ≤ 12) × (all (λ a. ltb (a .user) 16) (take taken actions) ≡ true) × Coded (now ops) × (8192 ≤ length (now workspace)) ⌝ }
+    ensures { λ _. ⌜ RowsStand m (now (ops .entry)) actions (2 ^ taken) (now (workspace .entry)) (now (workspace .exit)) ⌝ }
+{
+    let mut left = [0u64; 4096];
+    let mut right = [0u64; 4096];
+    let mut users = [0u16; 4096];
+    let mut met = [0u32; 4096];
+    fill_tables(
+        m,
+        ops,
+        actions,
+        taken,
+        &mut left,
+        &mut right,
+        &mut users,
+        &mut met,
+        workspace,
+    );
+}
+
+// Enters all sets of the first taken actions, with tables not much larger than they need: zeroing tables for twelve actions
+// takes longer than judging few.
+fn fill_sets(m: Masks, ops: &[u16], actions: [Action; 12], taken: u8, workspace: &mut [u32])
+    requires { ⌜ (taken ≤ 12) × (all (λ a. ltb (a .user) 16) (take taken actions) ≡ true) × Coded (now ops) × (8192 ≤ length (now workspace)) ⌝ }
+    ensures { λ _. ⌜ RowsStand m (now (ops .entry)) actions (2 ^ taken) (now (workspace .entry)) (now (workspace .exit)) ⌝ }
+{
+    if taken <= 6 {
+        fill_six(m, ops, actions, taken, workspace);
+        return;
+    }
+    if taken <= 9 {
+        fill_nine(m, ops, actions, taken, workspace);
+        return;
+    }
+    fill_twelve(m, ops, actions, taken, workspace);
+}
+
+// Fills the workspace for the first taken actions, by the policy's shape.
+pub(crate) fn fill_by(shape: Shape, actions: [Action; 12], taken: u8, workspace: &mut [u32])
+    requires { ⌜ Shaped shape × (taken ≤ 12) × (all (λ a. ltb (a .user) 16) (take taken actions) ≡ true) × (8192 ≤ length (now workspace)) ⌝ }
+    ensures { λ _. ⌜ ((w : Shaped shape) → now (workspace .exit) ≡ filled (w .term) (take taken actions) (now (workspace .entry))) ⌝ }
+{
+    clear(workspace);
+    let m = masks_of(shape);
+    let sides = shape.right;
+    let words = shape.words as usize;
+    let mut ops = [0u16; 31];
+    let count = operators(m.either, m.both, &sides[..words], &mut ops);
+    fill_sets(m, &ops[..count], actions, taken, workspace);
+}
