@@ -89,6 +89,7 @@ module _ (m : Masks) (ops : List ℕ) (s who met : ℕ) (t : Tables) (row right 
         )
             (record {
               lefts = λ e i b. let z : 1 + place e i ≡ place e (1 + i) = omega arith in bit-shr (place e i) 1 row ∙ ap (λ p. bit p row) z ∙ here .here e (1 + i) b;
+              possible = λ i b. let z : 1 + (31 + i) ≡ place true i = omega arith in bit-shr (31 + i) 1 row ∙ ap (λ p. bit p row) z ∙ here .here true i b;
               rights = here .sided;
               acting = a;
             });

@@ -73,21 +73,22 @@ module _ {A : Type 0} (user : A → ℕ) where
     abbrev pub parted : Op → List A → ℕ → ℕ → Bool
     parted op l s x = f (select x l) && (g (select (s - x) l) && agree op (select x l) (select (s - x) l))
 
+    -- what one proper part shows
+    pub joint-part : (op : Op) → unitOp op ≡ false → (l : List A) (s x : ℕ) → Part x s → So (parted op l s x) → So (join user op f g (select s l))
+    joint-part op j l s x p o =
+        let m = and-split (f (select x l)) (g (select (s - x) l) && agree op (select x l) (select (s - x) l)) o in
+        let n = and-split (g (select (s - x) l)) (agree op (select x l) (select (s - x) l)) (m .1) in
+        joint-in op j (record { one = select x l; two = select (s - x) l; split = cut l s x (p .within); for-one = m .0; for-two = n .0 }) (n .1)
+
     pub joint-law : (op : Op) → unitOp op ≡ false → (e : Bool) → f [] ≡ e → g [] ≡ e → (l : List A) (s : ℕ) (found : Bool)
         → (So found → (x : ℕ) × Part x s × So (parted op l s x)) → ((x : ℕ) → Part x s → So (parted op l s x) → So found)
         → (found || (e && (f (select s l) || g (select s l)))) ≡ join user op f g (select s l)
     joint-law op j e fe ge l s found out into = same-test (found || (e && (f S || g S))) (join user op f g S)
-        (λ o. ⊎-elim (λ k. proper (out k)) (λ k. let m = and-split e (f S || g S) k in ⊎-elim (for-left (m .0)) (for-right (m .0)) (or-split (f S) (g S) (m .1))) (or-split found (e && (f S || g S)) o))
+        (λ o. ⊎-elim (λ k. let w = out k in joint-part op j l s (w .0) (w .1) (w .2)) (λ k. let m = and-split e (f S || g S) k in ⊎-elim (for-left (m .0)) (for-right (m .0)) (or-split (f S) (g S) (m .1))) (or-split found (e && (f S || g S)) o))
         (λ o. let (h, d) = joint-out op j S o in back h d (uncut l s (h .split)))
       where
         S : List A
         S = select s l
-
-        proper : (x : ℕ) × Part x s × So (parted op l s x) → So (join user op f g S)
-        proper w =
-            let m = and-split (f (select (w .0) l)) (g (select (s - w .0) l) && agree op (select (w .0) l) (select (s - w .0) l)) (w .2) in
-            let n = and-split (g (select (s - w .0) l)) (agree op (select (w .0) l) (select (s - w .0) l)) (m .1) in
-            joint-in op j (record { one = select (w .0) l; two = select (s - w .0) l; split = cut l s (w .0) (w .1 .within); for-one = m .0; for-two = n .0 }) (n .1)
 
         for-left : So e → So (f S) → So (join user op f g S)
         for-left c o = joint-in op j (record { one = S; two = []; split = split-whole S; for-one = o; for-two = ge ∙ c }) (agree-left op S)

@@ -12,18 +12,21 @@ use Rattle.soda.specs.Bits.{bit}
 use Rattle.soda.specs.Lists.{all}
 use Rattle.soda.specs.Terms.{Op, either, both, together, apart, Term, everyone, role, set, ¬ᵗ_, _⁺, bin, sameOp, unitOp, unit, wellFormed, size, termAt, marks}
 use Rattle.soda.specs.Tables.{single, several, disjoint, join, table, bitTable}
-use Rattle.soda.proofs.Bools.{not-so, and-split, or-right}
+use Rattle.soda.proofs.Bools.{not-so, and-split, and-join, or-right}
 use Rattle.soda.proofs.Bits.{bit-of-zero}
 use Rattle.soda.proofs.Terms.{stands-here, bit-standing, bit-marks-past, size-pos}
 use Rattle.soda.proofs.Tables.{empty-set}
+use Rattle.soda.proofs.Parts.{part-is-possible, satisfied-is-possible}
 use Rattle.policy.specs.Shapes.{isPlus, isOp, rightSides}
 use Rattle.workspace.specs.Workspace.{select, judged}
-use Rattle.workspace.specs.Private.{place, Packed, Part, Joined, matched, allowed, jointly, based, bySides, Finished, Suited, RowIs, Sides}
+use Rattle.workspace.specs.Private.{place, Packed, Part, Joined, matched, allowed, jointly, Chance, based, bySides, Finished, Suited, RowIs, Sides}
 use Rattle.workspace.specs.declared.Action.{Action}
 use Rattle.workspace.specs.declared.masks.Masks.{Masks}
 use Rattle.workspace.proofs.Digits.{bit-or, bit-ones}
+use Rattle.workspace.proofs.Submask.{Within}
+use Rattle.workspace.proofs.Select.{cut}
 use Rattle.workspace.proofs.Subterms.{Stood, stood, stood-left, stood-right, right-side, right-inside, rights-length}
-use Rattle.workspace.proofs.Joint.{disjoint-masks, agree, parted, joint-law}
+use Rattle.workspace.proofs.Joint.{disjoint-masks, agree, parted, joint-part, joint-law}
 
 -- the table over actions as the workspace keeps them
 abbrev judge : Bool → Term → ℕ → List Action → Bool
@@ -100,6 +103,10 @@ agreed both α β u d anyone x y p q = absurd (true≢false u)
 agreed together α β u d anyone x y p q = ap (λ b. d || b) q ∙ or-true d
 agreed apart α β u d anyone x y p q = ap₂ _||_ p q ∙ or-false (disjoint (λ a. a .user) x y)
 
+to-possible : (e : Bool) (ψ : Term) (i : ℕ) (l : List Action) → So (judge e ψ i l) → So (judge true ψ i l)
+to-possible true ψ i l h = h
+to-possible false ψ i l h = satisfied-is-possible Action (λ a. a .user) (λ t k a. bit k (a .met)) ψ i l h
+
 -- all that the steps of a row with at least one action ensure
 pub record Stepped (φ : Term) (l : List Action) (m : Masks) (ops left rights users : List ℕ) (s ones met joint base row right : ℕ) : Type 0 where
   pub suited : Suited φ m ops
@@ -107,7 +114,12 @@ pub record Stepped (φ : Term) (l : List Action) (m : Masks) (ops left rights us
   pub some : ones ≡ 0 → ⊥
   pub count : length (select s l) ≡ ones
   pub noted : (e : Bool) (i : ℕ) → i < 32 → bit (place e i) met ≡ all (metAt i) (select s l)
-  pub joined : Joined (jointly m left rights users s) s joint
+  pub one : ℕ
+  pub two : ℕ
+  pub parts : (Within one s × (one < s)) × (Within two s × (two < s))
+  pub chance : ℕ
+  pub chances : Chance (m .joint) (getD left one 0) (getD left two 0) chance
+  pub joined : Joined (jointly chance (m .anyone) left rights users s) s joint
   pub is-base : (q : ℕ) → bit q base ≡ (based (m .units) (m .plus) met ones q || bit q joint)
   pub finished : Finished base (m .either) (m .both) (rightSides 0 φ) row right
 
@@ -117,9 +129,12 @@ module _ {φ : Term} {l : List Action} {m : Masks} {ops left rights users : List
   S = select s l
 
   -- no part is asked for at other words than those of together and apart
-  unmarked : (q : ℕ) → bit q (m .joint) ≡ false → bit q joint ≡ false
-  unmarked q n = not-so (bit q joint) (λ o. let w = F .joined .found q o in
-      true≢false (sym (and-split (bit q (m .joint)) (matched left rights s (w .0) q && allowed users (m .anyone) s (w .0) q) (w .2) .0) ∙ n))
+  unmarked : (e : Bool) (i : ℕ) → i < 32 → bit (place e i) (m .joint) ≡ false → bit (place e i) joint ≡ false
+  unmarked e i h n =
+      let q = place e i in
+      not-so (bit q joint) (λ o. let w = F .joined .found q o in
+      let k = and-split (bit q (F .chance)) (matched left rights s (w .0) q && allowed users (m .anyone) s (w .0) q) (w .2) .0 in
+      true≢false (sym (and-split (bit q (m .joint)) (bit (31 + i) (getD left (F .one) 0) && bit (31 + i) (getD left (F .two) 0)) (sym (F .chances e i h) ∙ k) .0) ∙ n))
 
   -- what is judged of the term that stands at a word
   judged-at : {i : ℕ} {ψ : Term} → Stood φ i ψ → (e : Bool) (k : List Action) → judged e φ k i ≡ judge e ψ i k
@@ -164,7 +179,7 @@ module _ {φ : Term} {l : List Action} {m : Masks} {ops left rights users : List
         || (mark (isOp both) (m .both) (F .suited .masked .both) t && (bit (place e (1 + i)) row && bit (place e (getD (rightSides 0 φ) i 0)) row))))
 
     no-joint : (isOp together ψ || isOp apart ψ) ≡ false → bit (place e i) joint ≡ false
-    no-joint n = unmarked (place e i) (joint-mark ∙ n)
+    no-joint n = unmarked e i (omega (arith, low)) (joint-mark ∙ n)
 
     unit-case : So (unit ψ) → bit (place e i) row ≡ judge e ψ i S
     unit-case u =
@@ -189,7 +204,7 @@ module _ {φ : Term} {l : List Action} {m : Masks} {ops left rights users : List
   module _ {i : ℕ} {op : Op} {α β : Term} (st : Stood φ i (bin op α β)) (e : Bool) where
     -- the part x at the left side, and the rest of the set at the right side
     part-bit : unitOp op ≡ false → (x : ℕ) → Part x s
-        → jointly m left rights users s x (place e i) ≡ parted (λ a. a .user) (judge e α (1 + i)) (judge e β (1 + i + size α)) op l s x
+        → (matched left rights s x (place e i) && allowed users (m .anyone) s x (place e i)) ≡ parted (λ a. a .user) (judge e α (1 + i)) (judge e β (1 + i + size α)) op l s x
     part-bit u x p =
         let here = is-joint op α β u in
         let a = F .known x (p .less) in
@@ -200,8 +215,27 @@ module _ {φ : Term} {l : List Action} {m : Masks} {ops left rights users : List
         let users-agree = agreed op α β u (eqb (bitAnd (getD users x 0) (getD users (s - x) 0)) 0) (bit (place e i) (m .anyone)) (select x l) (select (s - x) l)
         (disjoint-masks (λ a. a .user) (getD users x 0) (getD users (s - x) 0) (select x l) (select (s - x) l) (a .acting) (b .acting))
         (mark st e (isOp together) (m .anyone) (F .suited .masked .anyone)) in
-        (λ t. (joint-mark st e ∙ here) t && ((one t && two t) && users-agree t))
+        (λ t. (one t && two t) && users-agree t)
         ∙ and-assoc (judge e α (1 + i) (select x l)) (judge e β (1 + i + size α) (select (s - x) l)) (agree (λ a. a .user) op (select x l) (select (s - x) l))
+
+    -- a word that some part shows has a chance
+    hopeful : unitOp op ≡ false → (x : ℕ) → Part x s → So (parted (λ a. a .user) (judge e α (1 + i)) (judge e β (1 + i + size α)) op l s x)
+        → So (bit (place e i) (F .chance))
+    unfolding table
+    hopeful u x p o =
+        F .chances e i (omega (arith, low st e))
+        ∙ and-join (bit (place e i) (m .joint)) (bit (31 + i) (getD left (F .one) 0) && bit (31 + i) (getD left (F .two) 0)) (joint-mark st e ∙ is-joint op α β u)
+        (and-join (bit (31 + i) (getD left (F .one) 0)) (bit (31 + i) (getD left (F .two) 0)) (at (F .one) (F .parts .0)) (at (F .two) (F .parts .1)))
+      where
+        whole : So (judge e (bin op α β) i S)
+        whole = ap (λ b. cond (b && (unit α && unit β)) (single e (metAt i) S) (join (λ a. a .user) op (judge e α (1 + i)) (judge e β (1 + i + size α)) S)) u
+            ∙ joint-part (λ a. a .user) (judge e α (1 + i)) (judge e β (1 + i + size α)) op u l s x p o
+
+        at : (y : ℕ) → Within y s × (y < s) → So (bit (31 + i) (getD left y 0))
+        at y w =
+            F .known y (w .1) .possible i (below st e) ∙ judged-at st true (select y l)
+            ∙ part-is-possible Action (λ a. a .user) (λ t k a. bit k (a .met)) (bin op α β) i S (select y l) (select (s - y) l) (cut l s y (w .0))
+            (to-possible e (bin op α β) i S whole)
 
     joint-case : unitOp op ≡ false → (bit (place e i) joint || (e && (judge e α (1 + i) S || judge e β (1 + i + size α) S)))
         ≡ join (λ a. a .user) op (judge e α (1 + i)) (judge e β (1 + i + size α)) S
@@ -209,8 +243,10 @@ module _ {φ : Term} {l : List Action} {m : Masks} {ops left rights users : List
         joint-law (λ a. a .user) (judge e α (1 + i)) (judge e β (1 + i + size α)) op u e
         (empty-set Action (λ a. a .user) (λ t k a. bit k (a .met)) e α (1 + i)) (empty-set Action (λ a. a .user) (λ t k a. bit k (a .met)) e β (1 + i + size α))
         l s (bit (place e i) joint)
-        (λ o. let w = F .joined .found (place e i) o in (w .0, w .1, sym (part-bit u (w .0) (w .1)) ∙ w .2))
-        (λ x p o. F .joined .each (place e i) x p (part-bit u x p ∙ o))
+        (λ o. let w = F .joined .found (place e i) o in
+        (w .0, w .1, sym (part-bit u (w .0) (w .1)) ∙ and-split (bit (place e i) (F .chance)) (matched left rights s (w .0) (place e i) && allowed users (m .anyone) s (w .0) (place e i)) (w .2) .1))
+        (λ x p o. F .joined .each (place e i) x p
+        (and-join (bit (place e i) (F .chance)) (matched left rights s x (place e i) && allowed users (m .anyone) s x (place e i)) (hopeful u x p o) (part-bit u x p ∙ o)))
 
     -- the rule, for no unit term
     bin-rule : unit (bin op α β) ≡ false → (k : Bool) → bit (place e i) joint ≡ k
@@ -276,7 +312,7 @@ module _ {φ : Term} {l : List Action} {m : Masks} {ops left rights users : List
           let joints = in-both e (bitOr (marks (isOp together) φ) (marks (isOp apart) φ)) (m .joint) i k (masked .joint)
           ∙ bit-or i (marks (isOp together) φ) (marks (isOp apart) φ) ∙ ap₂ _||_ (bit-marks-past (isOp together) φ i h) (bit-marks-past (isOp apart) φ i h) in
           F .finished .past e i (omega (arith, h, rights-length 0 φ)) k ∙ F .is-base (place e i)
-          ∙ (λ t. ((eqb ones 1 && (bit (place e i) met && units t)) || (bit (1 + place e i) met && plus t)) || unmarked (place e i) joints t)
+          ∙ (λ t. ((eqb ones 1 && (bit (place e i) met && units t)) || (bit (1 + place e i) met && plus t)) || unmarked e i k joints t)
           ∙ simp (and-false, or-false)
 
 -- the row of no action

@@ -16,7 +16,7 @@ use Rattle.soda.proofs.Bools.{and-split, and-join, or-split, or-left, or-right,
 use Rattle.soda.proofs.Bits.{bit-of-zero}
 use Rattle.workspace.specs.Private.{Part, Parted, Joined, Next, matched, allowed}
 use Rattle.workspace.proofs.Digits.{lt-or-le, bit-and, bit-or}
-use Rattle.workspace.proofs.Submask.{Within, Lowest, within-le, and-within, rest-within, walk, within-more, within-less}
+use Rattle.workspace.proofs.Submask.{Within, Lowest, lowest, within-le, and-within, rest-within, walk, within-more, within-less}
 
 -- ── the parts of s by those of t ──
 module _ (f : ℕ → ℕ → Bool) (s t : ℕ) (n : Next s t) where
@@ -58,6 +58,13 @@ module _ (f : ℕ → ℕ → Bool) (s t : ℕ) (n : Next s t) where
   -- one action has no part
   pub joined-one : t ≡ 0 → Joined f s 0
   joined-one z = all-parts 0 (λ q e. absurd (true≢false (sym e ∙ bit-of-zero q))) (λ q x h w e. absurd (omega (arith, within-le x t w)))
+
+-- s without its last action, and without its first
+pub last-part : {s t : ℕ} → Next s t → Within t s × (t < s)
+last-part {s} {t} n = (subst (Within t) (sym (n .is)) (within-more (n .last) t (n .below) t (n .below) (and-self t)), omega (arith, n .is, pow-pos (n .last)))
+
+pub first-part : (s : ℕ) → 0 < s → Within (bitAnd s (s - 1)) s × (bitAnd s (s - 1) < s)
+first-part s h = let l = lowest s h in (l .plain (bitAnd s (s - 1)) (and-self (bitAnd s (s - 1))), l .less)
 
 -- ── the walk ──
 -- what is gathered in r: t's lowest action alone, and the parts of the others above a, with and without it
@@ -162,6 +169,6 @@ module _ (f : ℕ → ℕ → Bool) (s w : ℕ) where
   }
 
 -- where users matter at no word of the mask, they need not be compared
-pub any-user : (j anyone m ok : Bool) → j ≡ anyone → (j && m) ≡ (j && (m && (ok || anyone)))
-any-user true anyone m ok e = rw (← e) (sym (ap (λ b. m && b) (or-true ok) ∙ and-true m))
+pub any-user : (j anyone m ok : Bool) → (j && anyone) ≡ j → (j && m) ≡ (j && (m && (ok || anyone)))
+any-user true anyone m ok e = rw e (sym (ap (λ b. m && b) (or-true ok) ∙ and-true m))
 any-user false anyone m ok e = refl

@@ -69,9 +69,13 @@ matched left right s x q = bit q (getD left x 0) && bit q (getD right (s - x) 0)
 abbrev pub allowed : List ℕ → ℕ → ℕ → ℕ → ℕ → Bool
 allowed users anyone s x q = eqb (bitAnd (getD users x 0) (getD users (s - x) 0)) 0 || bit q anyone
 
--- both, at the words of together and apart
-abbrev pub jointly : Masks → List ℕ → List ℕ → List ℕ → ℕ → ℕ → ℕ → Bool
-jointly m left right users s x q = bit q (m .joint) && (matched left right s x q && allowed users (m .anyone) s x q)
+-- both, at the words of `joint`
+abbrev pub jointly : ℕ → ℕ → List ℕ → List ℕ → List ℕ → ℕ → ℕ → ℕ → Bool
+jointly joint anyone left right users s x q = bit q joint && (matched left right s x q && allowed users anyone s x q)
+
+-- the words of `joint` that two sets are possible for, by their digits at left sides, where possible begins at digit 31
+abbrev pub Chance : ℕ → ℕ → ℕ → ℕ → Type 0
+Chance joint one two r = (e : Bool) (i : ℕ) → i < 32 → bit (place e i) r ≡ (bit (place e i) joint && (bit (31 + i) one && bit (31 + i) two))
 
 -- ── a row from its own digits ──
 -- what the rows "unit" and "plus" give: `met` packs the unit terms that all actions met, and `ones` is the number of the actions
@@ -139,9 +143,11 @@ pub record RowIs (φ : Term) (l : List Action) (row right : ℕ) : Type 0 where
   pub past : (e : Bool) (i : ℕ) → size φ ≤ i → i < 32 → bit (place e i) row ≡ false
   pub sided : Rights φ l right
 
--- what a set's part is asked for: its row at the words' left sides and at the right sides of together and apart, and its users
+-- what a set's part is asked for: its row at the words' left sides, which has the whole column of possible, and at the right sides of
+-- together and apart, and its users
 pub record Sides (φ : Term) (l : List Action) (left right users : ℕ) : Type 0 where
   pub lefts : (e : Bool) (i : ℕ) → 1 + i < size φ → bit (place e i) left ≡ judged e φ l (1 + i)
+  pub possible : (i : ℕ) → i < size φ → bit (31 + i) left ≡ judged true φ l i
   pub rights : Rights φ l right
   pub acting : Acting l users
 

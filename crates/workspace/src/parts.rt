@@ -5,8 +5,9 @@ ghost use Prim.Native.Nat.{_≤_, _<_};
 ghost use lib.Bits.{bitAnd};
 ghost use lib.Dec.{eqb};
 ghost use lib.ListN.{length};
-ghost use Rattle.workspace.specs.Private.{Parted, Joined, Next, matched, allowed, jointly};
-use super::masks::Masks;
+ghost use Rattle.workspace.specs.Private.{Parted, Joined, Next, matched, allowed, jointly, Chance};
+use super::masks::packed;
+use super::masks::unpacked;
 
 // Where the part a of s stands at the left sides and the rest of s at the right sides, or the other way round.
 fn parted(left: &[u64], right: &[u64], s: usize, a: usize) -> u64
@@ -69,9 +70,20 @@ fn joined_apart(left: &[u64], right: &[u64], users: &[u16], anyone: u64, s: usiz
     acc
 }
 
-// The parts of s at the words of together and apart; a single action has none.
+// The words of joint that two sets, by their digits at left sides, are both possible for. No others can be found for a set that both
+// are parts of: a part of a possible set is possible, and what satisfies is possible.
+pub(crate) fn chance(joint: u64, one: u64, two: u64) -> u64
+    ensures { λ r. ⌜ Chance joint one two r ⌝ }
+{
+    let possible = unpacked(one & two, 31);
+    packed(possible, possible) & joint
+}
+
+// The parts of s at the words of joint, of together and apart; a single action has none. Where no word of apart is left, users need
+// not be compared.
 pub(crate) fn joints(
-    m: Masks,
+    joint: u64,
+    anyone: u64,
     left: &[u64],
     right: &[u64],
     users: &[u16],
@@ -79,16 +91,16 @@ pub(crate) fn joints(
     t: usize,
 ) -> u64
     requires { ⌜ (s < length (now left)) × (s < length (now right)) × (s < length (now users)) × Next s t ⌝ }
-    ensures { λ r. ⌜ Joined (jointly m (now (left .entry)) (now (right .entry)) (now (users .entry)) s) s r ⌝ }
+    ensures { λ r. ⌜ Joined (jointly joint anyone (now (left .entry)) (now (right .entry)) (now (users .entry)) s) s r ⌝ }
 {
-    if m.joint == 0 {
+    if joint == 0 {
         return 0;
     }
     if t == 0 {
         return 0;
     }
-    if m.joint == m.anyone {
-        return joined(left, right, s, t) & m.joint;
+    if joint & anyone == joint {
+        return joined(left, right, s, t) & joint;
     }
-    joined_apart(left, right, users, m.anyone, s, t) & m.joint
+    joined_apart(left, right, users, anyone, s, t) & joint
 }

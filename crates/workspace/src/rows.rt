@@ -7,6 +7,7 @@ ghost use Rattle.soda.specs.Bits.{bit};
 ghost use Rattle.workspace.specs.Private.{Next, based, Ascending, Listing, Operators, Coded, Finished, RowOf};
 use super::masks::Masks;
 use super::masks::packed;
+use super::parts::chance;
 use super::parts::joints;
 
 // A row, and at each operator's word the bit of its right side.
@@ -93,7 +94,8 @@ pub(crate) fn row_of(
             right: m.first,
         };
     }
-    let joint = joints(m, left, right, users, s, t);
-    let base = base_of(m.units, m.plus, packed(met, met), ones) | joint;
+    let joint = chance(m.joint, left[t], left[s & (s - 1)]);
+    let found = joints(joint, m.anyone, left, right, users, s, t);
+    let base = base_of(m.units, m.plus, packed(met, met), ones) | found;
     finish(base, m.either, m.both, ops)
 }

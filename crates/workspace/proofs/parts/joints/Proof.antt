@@ -1,5 +1,5 @@
 -- With no word of together or apart, and in a single action, there is nothing to find; with none of apart, users need not be compared.
-use mathlib.Core.Path.{ap, subst, fun-ext}
+use mathlib.Core.Path.{sym, _∙_, ap, subst, fun-ext}
 use Prim.Native.Nat.{_-_}
 use borrow.Author.Needs.{needs}
 use lib.Bits.{bitAnd}
@@ -7,25 +7,26 @@ use lib.Dec.{eqb}
 use lib.ListN.{getD}
 use Rattle.soda.specs.Bits.{bit}
 use Rattle.workspace.specs.Private.{Joined, matched}
+use Rattle.workspace.proofs.Digits.{bit-and}
 use Rattle.workspace.proofs.Walk.{joined-one, joined-none, joined-masked, any-user}
 use Rattle.workspace.proofs.parts.joints.Statement.{statement}
 use Rattle.workspace.proofs.parts.joints.Tie as tie
 
 returns-3 : tie.Need-returns-3
 returns-3 c =
-    let a = c .before .before .before .before .before .before .before .before .before .before .args in
-    subst (λ f. Joined f (a .s) (bitAnd (c .before .joined .result) (a .m .joint)))
-    (fun-ext (λ x. fun-ext (λ q. any-user (bit q (a .m .joint)) (bit q (a .m .anyone)) (matched (a .left .now) (a .right .now) (a .s) x q)
-    (eqb (bitAnd (getD (a .users .now) x 0) (getD (a .users .now) (a .s - x) 0)) 0) (ap (bit q) (c .before .before .if3 .taken)))))
-    (joined-masked (matched (a .left .now) (a .right .now) (a .s)) (a .s) (a .m .joint) (c .before .joined .result) (c .before .joined .ensures))
+    let a = c .before .before .before .before .before .before .before .args in
+    subst (λ f. Joined f (a .s) (bitAnd (c .joined .result) (a .joint)))
+    (fun-ext (λ x. fun-ext (λ q. any-user (bit q (a .joint)) (bit q (a .anyone)) (matched (a .left .now) (a .right .now) (a .s) x q)
+    (eqb (bitAnd (getD (a .users .now) x 0) (getD (a .users .now) (a .s - x) 0)) 0) (sym (bit-and q (a .joint) (a .anyone)) ∙ ap (bit q) (c .before .if3 .taken)))))
+    (joined-masked (matched (a .left .now) (a .right .now) (a .s)) (a .s) (a .joint) (c .joined .result) (c .joined .ensures))
 
 pub joints-spec : {M : Type 1} → statement M
 joints-spec =
     tie.close
     (tie.spec
     (λ c. joined-none _ _ _ (c .if1 .taken))
-    (λ c. joined-one _ _ _ (c .before .before .before .before .before .before .pre .3) (c .if2 .taken))
+    (λ c. joined-one _ _ _ (c .before .before .before .before .before .pre .3) (c .if2 .taken))
     (λ c κs. search needs)
     returns-3
     (λ c κs. search needs)
-    (λ c. joined-masked _ _ _ _ (c .before .joined-apart .ensures)))
+    (λ c. joined-masked _ _ _ _ (c .joined-apart .ensures)))
