@@ -5,10 +5,13 @@ use Prim.Native.Nat.{ℕ}
 use Rattle.soda.specs.Bits.{setBit, clearBit}
 use Rattle.soda.specs.Tables.{table}
 use Rattle.policy.specs.Reading.{metOf}
-use Rattle.monitor.specs.Instances.{openRefusals, fresh, wellFormed}
+use Rattle.monitor.specs.Configurations.{configurationOk}
+use Rattle.monitor.specs.Instances.{instanceOk}
+use Rattle.monitor.specs.Monitors.{openRefusals, fresh, opened, admission}
 use Rattle.monitor.specs.Events.{readEvent, eventRefusals}
+use Rattle.monitor.specs.Runs.{run}
 use Rattle.casefile.specs.Cases.{caseOk}
-use Rattle.casefile.specs.Texts.{eventLines, actionsTaken, runText, caseText}
+use Rattle.casefile.specs.Texts.{stepLines, runText, caseText}
 
 abbrev listing : List ℕ
 listing =
@@ -19,5 +22,5 @@ lines =
     49 ∷ 32 ∷ 48 ∷ 32 ∷ 111 ∷ 10 ∷ 50 ∷ 32 ∷ 48 ∷ 32 ∷ 111 ∷ 10 ∷ 51 ∷ 32 ∷ 48 ∷ 32 ∷ 111 ∷ 10 ∷ 52 ∷ 32 ∷ 48 ∷ 32 ∷ 111 ∷ 10 ∷ 53 ∷ 32 ∷ 49 ∷ 49 ∷ 32 ∷ 111 ∷ 10 ∷ 54 ∷ 32 ∷ 48 ∷ 32 ∷ 99 ∷ 10 ∷ 55 ∷ 32 ∷ 48 ∷ 32 ∷ 99 ∷ 10 ∷ 56 ∷ 32 ∷ 48 ∷ 32 ∷ 100 ∷ 10 ∷ 57 ∷ 32 ∷ 49 ∷ 48 ∷ 32 ∷ 100 ∷ 10 ∷ 116 ∷ 97 ∷ 107 ∷ 101 ∷ 110 ∷ 32 ∷ 52 ∷ 10 ∷ []
 
 pub listing-L : caseText listing ≡ lines
-unfolding setBit clearBit table metOf openRefusals fresh wellFormed readEvent eventRefusals caseOk eventLines actionsTaken runText caseText
+unfolding setBit clearBit table metOf openRefusals fresh opened configurationOk instanceOk admission readEvent eventRefusals run caseOk stepLines runText caseText
 listing-L = refl

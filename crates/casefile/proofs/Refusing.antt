@@ -7,10 +7,10 @@ use lib.Dec.{ltb, lit<}
 use Rattle.soda.specs.Lists.{all}
 use Rattle.soda.proofs.Bools.{and-split, so-lt}
 use Rattle.policy.specs.Refusals.{code}
-use Rattle.monitor.specs.declared.Instance.{Instance}
+use Rattle.monitor.specs.declared.Monitor.{Monitor}
 use Rattle.monitor.specs.declared.Event.{Event}
 use Rattle.monitor.specs.declared.Event.the-variants.{Acts, Grants, Revokes, Closes, Malformed}
-use Rattle.monitor.specs.Instances.{openRefusals, openCode}
+use Rattle.monitor.specs.Monitors.{Opening, openRefusals, openCode, admission}
 use Rattle.monitor.specs.Events.{eventRefusals}
 
 -- one of the numbers of the list, or 0
@@ -24,14 +24,14 @@ code-below n (r ∷ l) z h =
     go true x y = x
     go false x y = y
 
-pub open-below : (users roles : ℕ) (words rows : List ℕ) → openCode users roles words rows < 16
+pub open-below : (o : Opening) → openCode o < 16
 unfolding openRefusals
-open-below users roles words rows = code-below 16 (openRefusals users roles words rows) (lit< tt) refl
+open-below o = code-below 16 (openRefusals o) (lit< tt) refl
 
-pub event-below : (i : Instance) (e : Event) (n : ℕ) → code (eventRefusals i e n) < 16
-unfolding eventRefusals
-event-below i (Acts u) n = code-below 16 (eventRefusals i (Acts u) n) (lit< tt) refl
-event-below i (Grants u r) n = code-below 16 (eventRefusals i (Grants u r) n) (lit< tt) refl
-event-below i (Revokes u r) n = code-below 16 (eventRefusals i (Revokes u r) n) (lit< tt) refl
-event-below i Closes n = code-below 16 (eventRefusals i Closes n) (lit< tt) refl
-event-below i Malformed n = code-below 16 (eventRefusals i Malformed n) (lit< tt) refl
+pub event-below : (m : Monitor) (e : Event) (n : ℕ) → code (eventRefusals m e n) < 16
+unfolding eventRefusals admission
+event-below m (Acts u a) n = code-below 16 (eventRefusals m (Acts u a) n) (lit< tt) refl
+event-below m (Grants u r) n = code-below 16 (eventRefusals m (Grants u r) n) (lit< tt) refl
+event-below m (Revokes u r) n = code-below 16 (eventRefusals m (Revokes u r) n) (lit< tt) refl
+event-below m Closes n = code-below 16 (eventRefusals m Closes n) (lit< tt) refl
+event-below m Malformed n = code-below 16 (eventRefusals m Malformed n) (lit< tt) refl

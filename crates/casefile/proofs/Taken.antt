@@ -5,34 +5,33 @@ use mathlib.Core.List.{List, [], _∷_}
 use Prim.Native.Nat.{ℕ, _+_}
 use native.Mathlib.Omega.{arith}
 use lib.Dec.{eqb}
-use Rattle.monitor.specs.declared.Instance.{Instance}
+use Rattle.monitor.specs.declared.Monitor.{Monitor}
 use Rattle.monitor.specs.declared.Event.{Event}
 use Rattle.monitor.specs.declared.Event.the-variants.{Acts, Grants, Revokes, Closes, Malformed}
-use Rattle.monitor.specs.Events.{readEvent, applied, eventCode, eventInstance}
-use Rattle.casefile.specs.Texts.{isAction, actionsTaken, after}
+use Rattle.monitor.specs.Events.{eventIn, applied, eventCode, eventMonitor}
+use Rattle.monitor.specs.Runs.{Lengths, from, run, final, isAction, taken}
 use Rattle.casefile.specs.Taken.{TakenIsFinal}
 
 -- b is whether the event was answered 0
-one-more : (i : Instance) (e : Event) (b : Bool) → cond b (applied i e) i .taken ≡ i .taken + cond (isAction e && b) 1 0
-one-more i (Acts u) true = refl
-one-more i (Acts u) false = omega arith
-one-more i (Grants u r) true = omega arith
-one-more i (Grants u r) false = omega arith
-one-more i (Revokes u r) true = omega arith
-one-more i (Revokes u r) false = omega arith
-one-more i Closes true = omega arith
-one-more i Closes false = omega arith
-one-more i Malformed true = omega arith
-one-more i Malformed false = omega arith
+one-more : (m : Monitor) (e : Event) (b : Bool) → cond b (applied m e) m .instance .taken ≡ m .instance .taken + cond (isAction e && b) 1 0
+one-more m (Acts u a) true = refl
+one-more m (Acts u a) false = omega arith
+one-more m (Grants u r) true = omega arith
+one-more m (Grants u r) false = omega arith
+one-more m (Revokes u r) true = omega arith
+one-more m (Revokes u r) false = omega arith
+one-more m Closes true = omega arith
+one-more m Closes false = omega arith
+one-more m Malformed true = omega arith
+one-more m Malformed false = omega arith
 
-all-taken : (i : Instance) (ws : List ℕ) → i .taken + actionsTaken i ws ≡ after i ws .taken
-unfolding actionsTaken after
-all-taken i [] = omega arith
-all-taken i (w ∷ ws) =
-    let e = readEvent (i .users) (i .roles) w in
-    let m = one-more i e (eqb (eventCode i w 8192) 0) in
-    let rest = all-taken (eventInstance i w 8192) ws in
-    omega (arith, m, rest)
+all-taken : (m : Monitor) (ws : List ℕ) (n : Lengths) → m .instance .taken + taken (run m ws n) ≡ final m (run m ws n) .instance .taken
+unfolding run
+all-taken m [] n = omega arith
+all-taken m (w ∷ ws) n =
+    let more = one-more m (eventIn m w) (eqb (eventCode m w (n 0)) 0) in
+    let rest = all-taken (eventMonitor m w (n 0)) ws (from 2 n) in
+    omega (arith, more, rest)
 
 pub taken-is-final : TakenIsFinal
-taken-is-final i ws none = let e = all-taken i ws in omega arith
+taken-is-final m ws n none = let e = all-taken m ws n in omega arith

@@ -5,7 +5,7 @@ use Prim.Native.Nat.{ℕ, _+_}
 use native.Mathlib.Omega.{arith}
 use lib.ListN.{length, take, drop, length-append, length-drop}
 use lib.Seq.{length-take-le, take-at, drop-append-add, drop-drop}
-use Rattle.casefile.specs.Calls.{written, HasRoom, Put}
+use Rattle.casefile.specs.Private.{written, HasRoom, Put}
 
 module _ (out : List ℕ) (at : ℕ) (s : List ℕ) (room : HasRoom out at s) where
   front : length (take at out ++ s) ≡ at + length s

@@ -4,6 +4,7 @@ use mathlib.Core.List.{List, [], _∷_}
 use Prim.Native.Nat.{ℕ, zero, suc, _+_, _-_, _*_, _/_, _%_}
 use lib.Dec.{leb, eqb}
 use lib.ListN.{length, getD}
+use Rattle.monitor.specs.Monitors.{Opening}
 
 -- numbers of 16 and 32 bits at a place, low byte first
 abbrev pub half : List ℕ → ℕ → ℕ
@@ -16,25 +17,25 @@ wide b k = half b k + half b (k + 2) * 65536
 abbrev pub offset : List ℕ → ℕ → ℕ
 offset b part = half b (part * 4)
 
-abbrev pub extent : List ℕ → ℕ → ℕ
-extent b part = half b (part * 4 + 2)
+abbrev pub partLength : List ℕ → ℕ → ℕ
+partLength b part = half b (part * 4 + 2)
 
 -- The first offset is 12, each part begins where the last ended, and the third ends the file.
 abbrev pub partsOk : List ℕ → Bool
 partsOk b =
     eqb (offset b 0) 12
-    && (eqb (offset b 1) (offset b 0 + extent b 0)
-    && (eqb (offset b 2) (offset b 1 + extent b 1)
-    && eqb (length b) (offset b 2 + extent b 2)))
+    && (eqb (offset b 1) (offset b 0 + partLength b 0)
+    && (eqb (offset b 2) (offset b 1 + partLength b 1)
+    && eqb (length b) (offset b 2 + partLength b 2)))
 
 -- policy and events are multiples of 4, events at most 1,024 bytes; grants at least 2 bytes and of even length
 abbrev pub lengthsOk : List ℕ → Bool
 lengthsOk b =
-    eqb (extent b 0 % 4) 0
-    && (eqb (extent b 2 % 4) 0
-    && (leb (extent b 2) 1024
-    && (leb 2 (extent b 1)
-    && eqb (extent b 1 % 2) 0)))
+    eqb (partLength b 0 % 4) 0
+    && (eqb (partLength b 2 % 4) 0
+    && (leb (partLength b 2) 1024
+    && (leb 2 (partLength b 1)
+    && eqb (partLength b 1 % 2) 0)))
 
 -- 14 applies where this is false
 unfoldable pub caseOk : List ℕ → Bool
@@ -51,18 +52,15 @@ wides b = numbers (wide b) 4
 abbrev pub halves : List ℕ → ℕ → ℕ → List ℕ
 halves b = numbers (half b) 2
 
--- what a case holds: policy words; users count, roles count and a row a user; event words
-abbrev pub policyWords : List ℕ → List ℕ
-policyWords b = wides b (offset b 0) (extent b 0 / 4)
+-- what a case's opening is given: policy words; users count, roles count and a row a user
+abbrev pub openingOf : List ℕ → Opening
+openingOf b = record {
+  users = getD b (offset b 1) 0;
+  roles = getD b (offset b 1 + 1) 0;
+  words = wides b (offset b 0) (partLength b 0 / 4);
+  rows = halves b (offset b 1 + 2) ((partLength b 1 - 2) / 2);
+}
 
-abbrev pub usersOf : List ℕ → ℕ
-usersOf b = getD b (offset b 1) 0
-
-abbrev pub rolesOf : List ℕ → ℕ
-rolesOf b = getD b (offset b 1 + 1) 0
-
-abbrev pub rowsOf : List ℕ → List ℕ
-rowsOf b = halves b (offset b 1 + 2) ((extent b 1 - 2) / 2)
-
+-- its event words
 abbrev pub eventWords : List ℕ → List ℕ
-eventWords b = wides b (offset b 2) (extent b 2 / 4)
+eventWords b = wides b (offset b 2) (partLength b 2 / 4)

@@ -3,4 +3,4 @@ pub mod Texts
 -- What is proved of them.
 pub mod Taken
 -- The contracts of private functions.
-pub mod Calls
+pub mod Private

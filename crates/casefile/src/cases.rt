@@ -3,17 +3,17 @@ ghost use mathlib.Core.Path.{_≡_};
 ghost use mathlib.Core.Bool.{So};
 ghost use Prim.Native.Nat.{_+_, _*_, _≤_};
 ghost use lib.ListN.{length, take};
-ghost use Rattle.casefile.specs.Cases.{partsOk, lengthsOk, caseOk, wides, halves, policyWords, usersOf, rolesOf, rowsOf};
-ghost use Rattle.monitor.specs.Instances.{opening};
+ghost use Rattle.casefile.specs.Cases.{partsOk, lengthsOk, caseOk, wides, halves, openingOf};
+ghost use Rattle.monitor.specs.Monitors.{opening};
 use super::numbers::EVENTS;
 use super::numbers::GRANTS;
 use super::numbers::POLICY;
-use super::numbers::extent_of;
 use super::numbers::half_at;
+use super::numbers::length_of;
 use super::numbers::offset_of;
 use super::numbers::wide_at;
 use monitor::Answer;
-use monitor::Instance;
+use monitor::Monitor;
 
 // Whether the first part begins at 12, each other where the last ended, and the third ends the file.
 fn parts_ok(bytes: &[u8]) -> bool
@@ -25,14 +25,14 @@ fn parts_ok(bytes: &[u8]) -> bool
         return false;
     }
     let grants = offset_of(bytes, GRANTS);
-    if grants != policy + extent_of(bytes, POLICY) {
+    if grants != policy + length_of(bytes, POLICY) {
         return false;
     }
     let events = offset_of(bytes, EVENTS);
-    if events != grants + extent_of(bytes, GRANTS) {
+    if events != grants + length_of(bytes, GRANTS) {
         return false;
     }
-    bytes.len() == events + extent_of(bytes, EVENTS)
+    bytes.len() == events + length_of(bytes, EVENTS)
 }
 
 // Whether each part has a length that it may have.
@@ -40,17 +40,17 @@ fn lengths_ok(bytes: &[u8]) -> bool
     requires { ⌜ 12 ≤ length (now bytes) ⌝ }
     ensures { λ r. ⌜ r ≡ lengthsOk (now (bytes .entry)) ⌝ }
 {
-    if extent_of(bytes, POLICY) % 4 != 0 {
+    if length_of(bytes, POLICY) % 4 != 0 {
         return false;
     }
-    let events = extent_of(bytes, EVENTS);
+    let events = length_of(bytes, EVENTS);
     if events % 4 != 0 {
         return false;
     }
     if 1024 < events {
         return false;
     }
-    let grants = extent_of(bytes, GRANTS);
+    let grants = length_of(bytes, GRANTS);
     if grants < 2 {
         return false;
     }
@@ -97,19 +97,19 @@ fn fill_rows(bytes: &[u8], k: usize, n: usize, rows: &mut [u16])
     }
 }
 
-// Opens the instance that the case describes.
+// Opens the monitor that the case describes.
 pub(crate) fn open_case(bytes: &[u8]) -> Answer
     requires { ⌜ So (caseOk (now bytes)) ⌝ }
-    ensures { λ r. ⌜ r ≡ opening (usersOf (now (bytes .entry))) (rolesOf (now (bytes .entry))) (policyWords (now (bytes .entry))) (rowsOf (now (bytes .entry))) ⌝ }
+    ensures { λ r. ⌜ r ≡ opening (openingOf (now (bytes .entry))) ⌝ }
 {
-    let count = extent_of(bytes, POLICY) / 4;
+    let count = length_of(bytes, POLICY) / 4;
     let mut words = [0u32; 1024];
     fill_words(bytes, offset_of(bytes, POLICY), count, &mut words);
     let grants = offset_of(bytes, GRANTS);
-    let users = (extent_of(bytes, GRANTS) - 2) / 2;
+    let users = (length_of(bytes, GRANTS) - 2) / 2;
     let mut rows = [0u16; 2048];
     fill_rows(bytes, grants + 2, users, &mut rows);
-    Instance::open(
+    Monitor::open(
         bytes[grants],
         bytes[grants + 1],
         &words[..count],

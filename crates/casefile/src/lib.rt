@@ -10,12 +10,9 @@ mod texts;
 
 use cases::case_ok;
 use cases::open_case;
-use monitor::codes;
+use policy::codes;
 use runs::run;
 use texts::put_refused;
-
-// The number of a malformed case (document 01).
-pub const MALFORMED: u8 = 14;
 
 // The length of the longest text: 256 lines of at most 9 bytes, and one more.
 pub const LIMIT: usize = 2313;
@@ -34,13 +31,13 @@ pub fn judge(bytes: &[u8], out: &mut [u8]) -> Printed
         return Printed::TooShort;
     }
     if !case_ok(bytes) {
-        return Printed::Written(put_refused(out, 0, MALFORMED));
+        return Printed::Written(put_refused(out, 0, codes::CASE));
     }
     let opened = open_case(bytes);
     let code = opened.code;
     if code != codes::ACCEPTED {
         return Printed::Written(put_refused(out, 0, code));
     }
-    let instance = opened.instance;
-    Printed::Written(run(instance, bytes, out))
+    let monitor = opened.monitor;
+    Printed::Written(run(monitor, bytes, out))
 }

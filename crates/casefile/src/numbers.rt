@@ -2,7 +2,7 @@
 ghost use mathlib.Core.Path.{_≡_};
 ghost use Prim.Native.Nat.{_+_, _*_, _<_};
 ghost use lib.ListN.{length};
-ghost use Rattle.casefile.specs.Cases.{half, wide, offset, extent};
+ghost use Rattle.casefile.specs.Cases.{half, wide, offset, partLength};
 
 // The number of 16 bits at place k.
 pub(crate) fn half_at(bytes: &[u8], k: usize) -> u16
@@ -36,9 +36,9 @@ pub(crate) fn offset_of(bytes: &[u8], part: usize) -> usize
 }
 
 // How many bytes a part has.
-pub(crate) fn extent_of(bytes: &[u8], part: usize) -> usize
+pub(crate) fn length_of(bytes: &[u8], part: usize) -> usize
     requires { ⌜ part * 4 + 3 < length (now bytes) ⌝ }
-    ensures { λ r. ⌜ (r ≡ extent (now (bytes .entry)) part) × (r < 65536) ⌝ }
+    ensures { λ r. ⌜ (r ≡ partLength (now (bytes .entry)) part) × (r < 65536) ⌝ }
 {
     half_at(bytes, part * 4 + 2) as usize
 }

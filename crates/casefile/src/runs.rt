@@ -3,19 +3,19 @@ ghost use mathlib.Core.Path.{_≡_};
 ghost use Rattle.monitor.specs.Statuses.{letter};
 ghost use Rattle.casefile.specs.Cases.{eventWords};
 ghost use Rattle.casefile.specs.Texts.{runText};
-ghost use Rattle.casefile.specs.Calls.{Put, CanStep, Stepped, CanRun};
+ghost use Rattle.casefile.specs.Private.{Put, CanStep, Stepped, CanRun};
 use super::numbers::EVENTS;
-use super::numbers::extent_of;
+use super::numbers::length_of;
 use super::numbers::offset_of;
 use super::numbers::wide_at;
 use super::texts::put_line;
 use super::texts::put_taken;
-use monitor::Instance;
+use monitor::Monitor;
 use monitor::Status;
 
-// What an event leaves: the instance, and the place behind its line.
+// What an event leaves: the monitor, and the place behind its line.
 struct Left {
-    instance: Instance,
+    monitor: Monitor,
     at: usize,
 }
 
@@ -33,43 +33,44 @@ fn letter_of(status: Status) -> u8
 
 // One event: its line is its place, its number and the status after it.
 fn step(
-    instance: Instance,
+    monitor: Monitor,
     word: u32,
     place: usize,
     out: &mut [u8],
     at: usize,
     workspace: &mut [u32],
 ) -> Left
-    requires { ⌜ CanStep instance (now workspace) (now out) at ⌝ }
-    ensures { λ r. ⌜ Stepped instance word place (now (out .entry)) at (r .instance) (r .at) (now (out .exit)) ⌝ }
+    requires { ⌜ CanStep monitor (now workspace) (now out) at ⌝ }
+    ensures { λ r. ⌜ Stepped monitor word place (now (out .entry)) at (r .monitor) (r .at) (now (out .exit)) ⌝ }
 {
-    let answer = instance.event(word, workspace);
-    let next = answer.instance;
+    let answer = monitor.event(word, workspace);
+    let next = answer.monitor;
     let status = next.status(workspace);
     let end = put_line(out, at, place, answer.code, letter_of(status));
     Left {
-        instance: next,
+        monitor: next,
         at: end,
     }
 }
 
 // The lines of the case's events, then the number of actions taken.
-pub(crate) fn run(instance: Instance, bytes: &[u8], out: &mut [u8]) -> usize
-    requires { ⌜ CanRun instance (now bytes) (now out) ⌝ }
-    ensures { λ r. ⌜ Put (now (out .entry)) 0 (runText instance (eventWords (now (bytes .entry)))) r (now (out .exit)) ⌝ }
+pub(crate) fn run(monitor: Monitor, bytes: &[u8], out: &mut [u8]) -> usize
+    requires { ⌜ CanRun monitor (now bytes) (now out) ⌝ }
+    ensures { λ r. ⌜ Put (now (out .entry)) 0 (runText monitor (eventWords (now (bytes .entry)))) r (now (out .exit)) ⌝ }
 {
     let from = offset_of(bytes, EVENTS);
-    let count = extent_of(bytes, EVENTS) / 4;
+    let count = length_of(bytes, EVENTS) / 4;
     let mut workspace = [0u32; 8192];
-    let mut current = instance;
+    let mut current = monitor;
     let mut at = 0;
     let mut i = 0;
     while i < count {
         let word = wide_at(bytes, from + i * 4);
         let stepped = step(current, word, i + 1, out, at, &mut workspace);
-        current = stepped.instance;
+        current = stepped.monitor;
         at = stepped.at;
         i += 1;
     }
-    put_taken(out, at, current.taken)
+    let instance = current.instance;
+    put_taken(out, at, instance.taken)
 }

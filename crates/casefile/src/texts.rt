@@ -3,7 +3,7 @@ ghost use mathlib.Core.Path.{_≡_};
 ghost use mathlib.Core.List.{[], _∷_, _++_};
 ghost use Prim.Native.Nat.{_/_};
 ghost use Rattle.casefile.specs.Texts.{digit, decimal, refusedText, takenText, lineText};
-ghost use Rattle.casefile.specs.Calls.{HasRoom, Put};
+ghost use Rattle.casefile.specs.Private.{HasRoom, Put};
 
 // The last decimal digit of a number.
 fn digit_of(n: usize) -> u8

@@ -1,267 +1,166 @@
--- Demand 2: the instance of a run keeps step with a trace, so the theorems of the algebra speak of its next answer.
-use mathlib.Core.Path.{_≡_, refl, sym, _∙_, ap, ap₂, subst, subst₂}
+-- Demand 2: the next answer is one of the algebra's, so its theorems speak of it.
+use mathlib.Core.Path.{_≡_, refl, sym, _∙_, ap, subst, subst₂}
 use mathlib.Core.Logic.{_↔_}
-use mathlib.Core.Bool.{Bool, true, false, So, not, _||_, cond, true≢false}
-use mathlib.Core.List.{List, [], _∷_, _++_, map, map-append, append-nil, append-assoc}
-use Prim.Native.Nat.{ℕ, _+_, _%_, _^_, _≤_, _<_}
+use mathlib.Core.Bool.{Bool, true, false, So, not, cond, true≢false}
+use mathlib.Core.List.{List, [], _∷_, _++_, append-nil}
+use Prim.Native.Nat.{ℕ, _≤_, _<_}
 use native.Mathlib.Omega.{arith}
-use lib.Dec.{leb, ltb, eqb}
-use lib.ListN.{length}
+use lib.Dec.{leb, ltb}
+use borrow.Author.Tests.{leb-true, leb-false, lt-leb, not-true}
 use Rattle.soda.specs.Terms.{Term, wellFormed}
 use Rattle.soda.specs.Tables.{satisfied, possible}
-use Rattle.soda.specs.Multisets.{SatM}
-use Rattle.soda.specs.Traces.{Event, business, addUA, rmUA, Trace, upd, businessOnly, users as usersOf, actedBelow, noted, SatT}
-use Rattle.soda.specs.Csp.{Accepts}
-use Rattle.soda.specs.Processes.{Symbol, event, done, body, SOD, unfinished, finished}
-use Rattle.soda.proofs.Bools.{never, not-so, and-join, lt-so, so-lt}
+use Rattle.soda.specs.Traces.{Event as TraceEvent, business, addUA, rmUA, Trace, upd, actedBelow, noted}
+use Rattle.soda.specs.Processes.{Symbol, event, done, unfinished, finished}
+use Rattle.soda.proofs.Bools.{never, and-join, so-lt, lt-so}
 use Rattle.soda.proofs.Accuracy.{possible-is-process, satisfied-is-trace, satisfied-is-multiset, theorem-1}
 use Rattle.soda.proofs.Endings.{nothing-follows-done}
-use Rattle.policy.specs.Refusals.{code}
-use Rattle.workspace.specs.declared.Action.{Action as Taken}
-use Rattle.monitor.specs.declared.Instance.{Instance}
-use Rattle.monitor.specs.declared.Event.{Event as Request}
+use Rattle.policy.specs.Codes.{ACCEPTED, FULL, NOT-POSSIBLE, CLOSED, NOT-SATISFIED}
+use Rattle.monitor.specs.declared.Event.{Event}
 use Rattle.monitor.specs.declared.Event.the-variants.{Acts, Grants, Revokes, Closes, Malformed}
-use Rattle.monitor.specs.declared.Status.the-variants.{Complete, Open}
-use Rattle.monitor.specs.Statuses.{statusRefusals, statusOf, letter}
-use Rattle.monitor.specs.Instances.{openCode, takenOf, term}
-use Rattle.monitor.specs.Events.{readEvent, isMalformed, satisfies, isPossible, tried, ownRefusals, eventRefusals, outcome}
-use Rattle.claims.specs.Runs.{opened, Rooms, Long, from, grown, history, symbolOf}
-use Rattle.claims.specs.Accuracy.{Run, policy, final, accepted, traceOf, EventIsProcess, CloseIsTrace, CloseIsMultiset}
-use Rattle.monitor.proofs.Formed.{is-formed}
+use Rattle.monitor.specs.Monitors.{Opening, policy, opened}
+use Rattle.monitor.specs.Events.{isMalformed, eventCode}
+use Rattle.monitor.specs.Statuses.{letterD, letterC, letterO}
+use Rattle.monitor.specs.Runs.{isAction}
 use Rattle.monitor.proofs.Reading.{Declared, declared}
-use Rattle.claims.proofs.Growth.{known, judged-known, noted-append, below-append, moved, isClose, event-code, Follows, start, φ, formed, same-term, known-tried, next}
+use Rattle.claims.specs.Runs.{symbolOf}
+use Rattle.claims.specs.Accuracy.{Run, left, history, next, traceOf, hasClosed, businessEvents, hasRoom, Satisfies, Enforced, EventIsProcess, EightIsFull, CloseIsTrace, CloseIsMultiset, StatusIsTrace}
+use Rattle.claims.proofs.Follows.{noted-append, below-append, unfinished-append, ended, formed-policy, Follows, follows-opened, follows-run, taken-most, same-number}
+use Rattle.claims.proofs.Answers.{openAnswer, answerTo, answered, letter-given}
 
--- a trace, with done behind it where it is closed
-abbrev pub ended : Trace → Bool → List Symbol
-ended t c = cond c (finished t) (unfinished t)
-
-unfinished-append : (s t : Trace) → unfinished (s ++ t) ≡ unfinished s ++ unfinished t
-unfinished-append s t = map-append event s t
-
--- the run with the next event's symbols behind it
-ended-next : (t : Trace) (c : Bool) (e : Request) (w : ℕ) (b : Bool) → (c ≡ true → b ≡ false)
-    → ended t c ++ cond b (symbolOf e w) [] ≡ ended (t ++ cond b (moved e w) []) (cond b (c || isClose e) c)
-ended-next t c e w false h = append-nil (ended t c) ∙ ap (λ s. ended s c) (sym (append-nil t))
-ended-next t true e w true h = never (sym (h refl))
-ended-next t false (Acts u) w true h = sym (unfinished-append t (business u (w % 2 ^ 8) ∷ []))
-ended-next t false (Grants u r) w true h = sym (unfinished-append t (addUA u r ∷ []))
-ended-next t false (Revokes u r) w true h = sym (unfinished-append t (rmUA u r ∷ []))
-ended-next t false Closes w true h = ap finished (sym (append-nil t))
-ended-next t false Malformed w true h = append-nil (unfinished t) ∙ ap unfinished (sym (append-nil t))
-
-module _ (users roles : ℕ) (words rows : List ℕ) (p : openCode users roles words rows ≡ 0) where
-  -- a closed instance takes nothing
-  closed-code : (i : Instance) (t : Trace) (c : Bool) → Follows users roles words rows p i t c → (e : Request) (n : ℕ) → 8192 ≤ n → c ≡ true → code (eventRefusals i e n) ≡ 10
-  closed-code i t c f e n l o = event-code i e n l (is-formed i (f .isFormed)) ∙ ap (λ b. cond b 10 (cond (isMalformed e) 7 (code (ownRefusals i e)))) (f .same-mark ∙ o)
-
-  -- where a run leads
-  pub record Reached (i : Instance) (h : List Symbol) : Type 0 where
-    pub trace : Trace
-    pub mark : Bool
-    pub follows : Follows users roles words rows p i trace mark
-    pub is-run : h ≡ ended trace mark
-
-  reach : (ws : List ℕ) (rooms : Rooms) → Long rooms → (i : Instance) (t : Trace) (c : Bool) → Follows users roles words rows p i t c
-      → (h : List Symbol) → h ≡ ended t c → Reached (grown i ws rooms) (h ++ history i ws rooms)
-  unfolding grown history outcome
-  reach [] rooms long i t c f h e = record { trace = t; mark = c; follows = f; is-run = append-nil h ∙ e }
-  reach (w ∷ ws) rooms long i t c f h e =
-      let q = readEvent (i .users) (i .roles) w in
-      let k = code (eventRefusals i q (length (rooms 0))) in
-      let d : Declared users roles q = subst₂ (λ m n. Declared m n q) (f .same-users) (f .same-roles) (declared (i .users) (i .roles) w) in
-      let x : List Symbol = cond (eqb k 0) (symbolOf q w) [] in
-      let y : h ++ x ≡ ended (t ++ cond (eqb k 0) (moved q w) []) (cond (eqb k 0) (c || isClose q) c) =
-      ap (λ s. s ++ x) e ∙ ended-next t c q w (eqb k 0) (λ o. ap (λ m. eqb m 0) (closed-code i t c f q (length (rooms 0)) (long 0) o)) in
-      subst (Reached (grown (outcome i w (rooms 0) .instance) ws (from 1 rooms))) (append-assoc h x (history (outcome i w (rooms 0) .instance) ws (from 1 rooms)))
-      (reach ws (from 1 rooms) (λ n. long (1 + n)) (outcome i w (rooms 0) .instance) (t ++ cond (eqb k 0) (moved q w) []) (cond (eqb k 0) (c || isClose q) c)
-      (next users roles words rows p i t c f q w (length (rooms 0)) (long 0) d) (h ++ x) y)
-
--- where the run of an opening leads
-reached : (r : Run) → Reached (r .users) (r .roles) (r .words) (r .rows) (r .accepts) (final r) (accepted r)
-reached r =
-    let p = r .accepts in
-    reach (r .users) (r .roles) (r .words) (r .rows) p (r .events) (r .rooms) (r .long) (opened (r .users) (r .roles) (r .words) (r .rows)) [] false
-    (start (r .users) (r .roles) (r .words) (r .rows) p) [] refl
-
--- ── the next answer ──
--- a status is told from another by its letter
-complete-iff : (b : Bool) → (cond b Complete Open ≡ Complete) ↔ So b
-complete-iff true = (λ e. refl, λ e. refl)
-complete-iff false = (λ e. absurd (letters (ap letter e)), λ e. never e)
-  where
-    letters : _≡_ {A = ℕ} 111 99 → ⊥
-    letters z = omega arith
-
-zero-code : (b : Bool) (k : ℕ) → 0 < k → (cond b k 0 ≡ 0) ↔ (b ≡ false)
-zero-code true k h = (λ e. absurd (omega arith), λ e. absurd (true≢false e))
-zero-code false k h = (λ e. refl, λ e. refl)
-
-not-false : (b : Bool) → (not b ≡ false) ↔ So b
-not-false true = (λ e. refl, λ e. refl)
-not-false false = (λ e. never (sym e), λ e. never e)
-
+-- ── equivalences ──
 iff-trans {ℓ κ μ} : {A : Type ℓ} {B : Type κ} {C : Type μ} → A ↔ B → B ↔ C → A ↔ C
 iff-trans f g = (λ a. g .0 (f .0 a), λ c. f .1 (g .1 c))
 
 flip {ℓ κ} : {A : Type ℓ} {B : Type κ} → A ↔ B → B ↔ A
 flip f = (f .1, f .0)
 
-eq-iff {ℓ} : {A : Type ℓ} (P : A → Type ℓ) {a b : A} → a ≡ b → P a ↔ P b
-eq-iff P e = (λ x. subst P e x, λ y. subst P (sym e) y)
+-- a number that is given where a test fails
+zero-code : (b : Bool) (k : ℕ) → 0 < k → (cond (not b) k ACCEPTED ≡ ACCEPTED) ↔ So b
+zero-code true k h = (λ e. refl, λ e. refl)
+zero-code false k h = (λ e. absurd (omega arith), λ e. never e)
 
-so-iff : {a b : Bool} → a ≡ b → So a ↔ So b
-so-iff e = (λ x. sym e ∙ x, λ y. e ∙ y)
+module _ (r : Run) where
+  abbrev o : Opening
+  o = r .start
 
-module _ (users roles : ℕ) (words rows : List ℕ) (p : openCode users roles words rows ≡ 0) (i : Instance) (t : Trace) (f : Follows users roles words rows p i t false) where
-  abbrev ψ : Term
-  ψ = φ users roles words rows p
+  abbrev φ : Term
+  φ = policy o
 
-  -- the table on the instance's actions is the table on what the trace notes
-  possible-known : (l : List Taken) (s : Trace) → map known l ≡ noted ψ rows s → isPossible ψ l ≡ possible ψ 0 (noted ψ rows s)
-  possible-known l s e = judged-known true ψ l ∙ ap (possible ψ 0) e
+  abbrev l : List Symbol
+  l = history r
 
-  satisfied-taken : satisfies (term i) (takenOf i) ≡ satisfied ψ 0 (noted ψ rows t)
-  satisfied-taken = ap (λ x. satisfies x (takenOf i)) (same-term users roles words rows p i t false f) ∙ judged-known false ψ (takenOf i) ∙ ap (satisfied ψ 0) (f .same-taken)
+  abbrev t : Trace
+  t = traceOf l
 
-  -- the process takes an admin event
-  admin : (a : Event) → So (actedBelow users (t ++ (a ∷ []))) → noted ψ (upd rows t) (a ∷ []) ≡ [] → Accepts body (SOD ψ users rows) (unfinished t ++ (event a ∷ []))
-  admin a b n = subst (Accepts body (SOD ψ users rows)) (unfinished-append t (a ∷ []))
-      (possible-is-process ψ (formed users roles words rows p) users rows (t ++ (a ∷ [])) b .0
-      (sym (possible-known (takenOf i) (t ++ (a ∷ [])) same) ∙ f .fits))
+  follows : Follows o (left r) l
+  follows = follows-run o (r .opens) (r .events) (r .lengths) (opened o) [] (follows-opened o (r .opens))
+
+  answer : (w n : ℕ) → 8192 ≤ n → eventCode (left r) w n ≡ answerTo o l (next r w)
+  answer = answered o (r .opens) (left r) l follows
+
+  open-answer : (w n : ℕ) → 8192 ≤ n → hasClosed l ≡ false → eventCode (left r) w n ≡ openAnswer o l (next r w)
+  open-answer w n long k = answer w n long ∙ ap (λ b. cond b CLOSED (openAnswer o l (next r w))) k
+
+  is-formed : So (wellFormed φ)
+  is-formed = formed-policy o (r .opens)
+
+  -- the taken actions are possible
+  possible-taken : So (possible φ 0 (noted φ (o .rows) t))
+  possible-taken = subst (λ s. So (possible φ 0 s)) (follows .same-taken) (follows .fits)
+
+  -- ── the process ──
+  -- one more trace event
+  process-next : (e : TraceEvent) → So (actedBelow (o .users) (e ∷ [])) → So (possible φ 0 (noted φ (o .rows) (t ++ (e ∷ [])))) ↔ Enforced r (unfinished t ++ (event e ∷ []))
+  process-next e d = subst (λ s. So (possible φ 0 (noted φ (o .rows) (t ++ (e ∷ [])))) ↔ Enforced r s) (unfinished-append t (e ∷ []))
+      (possible-is-process φ is-formed (o .users) (o .rows) (t ++ (e ∷ [])) (below-append (o .users) t (e ∷ []) (follows .below) d))
+
+  -- one that notes no action is always taken
+  admin-next : (e : TraceEvent) → So (actedBelow (o .users) (e ∷ [])) → noted φ (upd (o .rows) t) (e ∷ []) ≡ [] → Enforced r (unfinished t ++ (event e ∷ []))
+  admin-next e d k = process-next e d .0 (ap (possible φ 0) (noted-append φ t (e ∷ []) (o .rows) ∙ ap (λ s. noted φ (o .rows) t ++ s) k ∙ append-nil (noted φ (o .rows) t)) ∙ possible-taken)
+
+  open-process : (e : Event) → Declared (o .users) (o .roles) e → isMalformed e ≡ false → So (hasRoom l e) → (openAnswer o l e ≡ ACCEPTED) ↔ Enforced r (unfinished t ++ symbolOf e)
+  open-process (Acts u a) d m k =
+      let few : leb 12 (businessEvents l) ≡ false = lt-leb 12 (businessEvents l) (so-lt (businessEvents l) 12 k) in
+      let b = possible φ 0 (noted φ (o .rows) (t ++ (business u a ∷ []))) in
+      rw few (iff-trans (zero-code b NOT-POSSIBLE (omega arith)) (process-next (business u a) (and-join (ltb u (o .users)) true (lt-so u (o .users) d) refl)))
+  open-process (Grants u s) d m k = (λ e. admin-next (addUA u s) refl refl, λ e. refl)
+  open-process (Revokes u s) d m k = (λ e. admin-next (rmUA u s) refl refl, λ e. refl)
+  open-process Closes d m k =
+      iff-trans (zero-code (satisfied φ 0 (noted φ (o .rows) t)) NOT-SATISFIED (omega arith))
+      (iff-trans (satisfied-is-trace φ is-formed (o .rows) t) (flip (theorem-1 φ is-formed (o .users) (o .rows) t (follows .below))))
+  open-process Malformed d m k = absurd (true≢false m)
+
+  -- nothing follows done
+  closed-process : (e : Event) → isMalformed e ≡ false → Enforced r (finished t ++ symbolOf e) → ⊥
+  closed-process (Acts u a) m x = nothing-follows-done φ (o .rows) (λ v. ltb v (o .users)) t (event (business u a)) [] x
+  closed-process (Grants u s) m x = nothing-follows-done φ (o .rows) (λ v. ltb v (o .users)) t (event (addUA u s)) [] x
+  closed-process (Revokes u s) m x = nothing-follows-done φ (o .rows) (λ v. ltb v (o .users)) t (event (rmUA u s)) [] x
+  closed-process Closes m x = nothing-follows-done φ (o .rows) (λ v. ltb v (o .users)) t done [] x
+  closed-process Malformed m x = true≢false m
+
+  process : (c : Bool) (e : Event) → Declared (o .users) (o .roles) e → isMalformed e ≡ false → So (hasRoom l e)
+      → (cond c CLOSED (openAnswer o l e) ≡ ACCEPTED) ↔ Enforced r (ended t c ++ symbolOf e)
+  process true e d m k = (λ x. absurd (omega arith), λ x. absurd (closed-process e m x))
+  process false e d m k = open-process e d m k
+
+  -- ── 8 ──
+  open-full : (e : Event) → (openAnswer o l e ≡ FULL) ↔ (So (isAction e) × (businessEvents l ≡ 12))
+  open-full (Acts u a) = go (leb 12 (businessEvents l)) refl (possible φ 0 (noted φ (o .rows) (t ++ (business u a ∷ []))))
     where
-      same : map known (takenOf i) ≡ noted ψ rows (t ++ (a ∷ []))
-      same = f .same-taken ∙ sym (append-nil (noted ψ rows t)) ∙ ap (λ x. noted ψ rows t ++ x) (sym n) ∙ sym (noted-append ψ t (a ∷ []) rows)
+      most : businessEvents l ≤ 12
+      most = let n = same-number o (r .opens) (left r) l follows in omega (arith, taken-most o (r .opens) (left r) l follows)
 
-  pub open-process : (e : Request) (w : ℕ) → Declared users roles e → isMalformed e ≡ false → (cond (isMalformed e) 7 (code (ownRefusals i e)) ≡ 8 → ⊥)
-      → (cond (isMalformed e) 7 (code (ownRefusals i e)) ≡ 0) ↔ Accepts body (SOD ψ users rows) (unfinished t ++ symbolOf e w)
-  open-process (Acts u) w l m n = go (leb 12 (i .taken)) n
+      go : (a : Bool) → leb 12 (businessEvents l) ≡ a → (b : Bool) → (cond a FULL (cond (not b) NOT-POSSIBLE ACCEPTED) ≡ FULL) ↔ (So true × (businessEvents l ≡ 12))
+      go true x b = (λ e. (refl, omega (arith, most, leb-true 12 (businessEvents l) x)), λ e. refl)
+      go false x true = (λ e. absurd (omega arith), λ e. absurd (omega (arith, e .1, leb-false 12 (businessEvents l) x)))
+      go false x false = (λ e. absurd (omega arith), λ e. absurd (omega (arith, e .1, leb-false 12 (businessEvents l) x)))
+  open-full (Grants u s) = (λ e. absurd (omega arith), λ e. never (e .0))
+  open-full (Revokes u s) = (λ e. absurd (omega arith), λ e. never (e .0))
+  open-full Closes = (λ e. absurd (go (satisfied φ 0 (noted φ (o .rows) t)) e), λ e. never (e .0))
     where
-      b : Event
-      b = business u (w % 2 ^ 8)
+      go : (b : Bool) → cond (not b) NOT-SATISFIED ACCEPTED ≡ FULL → ⊥
+      go true e = omega arith
+      go false e = omega arith
+  open-full Malformed = (λ e. absurd (omega arith), λ e. never (e .0))
 
-      below : So (actedBelow users (t ++ (b ∷ [])))
-      below = below-append users t (b ∷ []) (f .below) (and-join (ltb u users) true (lt-so u users l) refl)
+  full : (c : Bool) (e : Event) → (cond c CLOSED (openAnswer o l e) ≡ FULL) ↔ (So (isAction e) × So (not c) × (businessEvents l ≡ 12))
+  full true e = (λ x. absurd (omega arith), λ x. never (x .1))
+  full false e = let k = open-full e in (λ x. (k .0 x .0, refl, k .0 x .1), λ x. k .1 (x .0, x .2))
 
-      trial : isPossible (term i) (tried i u) ≡ possible ψ 0 (noted ψ rows (t ++ (b ∷ [])))
-      trial = ap (λ x. isPossible x (tried i u)) (same-term users roles words rows p i t false f)
-          ∙ possible-known (tried i u) (t ++ (b ∷ [])) (known-tried users roles words rows p i t false f u (w % 2 ^ 8) l)
+  -- ── a close ──
+  close : (w n : ℕ) → 8192 ≤ n → next r w ≡ Closes → So (not (hasClosed l)) → (eventCode (left r) w n ≡ ACCEPTED) ↔ So (satisfied φ 0 (noted φ (o .rows) t))
+  close w n long q k = subst (λ (x : ℕ). (x ≡ ACCEPTED) ↔ So (satisfied φ 0 (noted φ (o .rows) t)))
+      (sym (open-answer w n long (not-true (hasClosed l) k) ∙ ap (openAnswer o l) q)) (zero-code (satisfied φ 0 (noted φ (o .rows) t)) NOT-SATISFIED (omega arith))
 
-      taken : So (isPossible (term i) (tried i u)) ↔ Accepts body (SOD ψ users rows) (unfinished t ++ (event b ∷ []))
-      taken = subst (λ s. So (isPossible (term i) (tried i u)) ↔ Accepts body (SOD ψ users rows) s) (unfinished-append t (b ∷ []))
-          (iff-trans (so-iff trial) (possible-is-process ψ (formed users roles words rows p) users rows (t ++ (b ∷ [])) below))
-
-      k : Bool → ℕ
-      k a = cond a 8 (cond (not (isPossible (term i) (tried i u))) 9 0)
-
-      go : (a : Bool) → (k a ≡ 8 → ⊥) → (k a ≡ 0) ↔ Accepts body (SOD ψ users rows) (unfinished t ++ (event b ∷ []))
-      go true x = absurd (x refl)
-      go false x = iff-trans (iff-trans (zero-code (not (isPossible (term i) (tried i u))) 9 (omega arith)) (not-false (isPossible (term i) (tried i u)))) taken
-  open-process (Grants u r) w l m n = (λ e. admin (addUA u r) (below-append users t (addUA u r ∷ []) (f .below) refl) refl, λ e. refl)
-  open-process (Revokes u r) w l m n = (λ e. admin (rmUA u r) (below-append users t (rmUA u r ∷ []) (f .below) refl) refl, λ e. refl)
-  open-process Closes w l m n =
-      iff-trans (iff-trans (zero-code (not (satisfies (term i) (takenOf i))) 11 (omega arith)) (not-false (satisfies (term i) (takenOf i))))
-      (iff-trans (so-iff satisfied-taken) (iff-trans (satisfied-is-trace ψ (formed users roles words rows p) rows t) (flip (theorem-1 ψ (formed users roles words rows p) users rows t (f .below)))))
-  open-process Malformed w l m n = absurd (true≢false m)
-
+-- ── the claims ──
 pub event-is-process : EventIsProcess
-unfolding outcome
-event-is-process r w room l m n = go (g .mark) refl (g .follows)
-  where
-    p : openCode (r .users) (r .roles) (r .words) (r .rows) ≡ 0
-    p = r .accepts
+event-is-process r w n long m k = subst₂ (λ (x : ℕ) (s : List Symbol). (x ≡ ACCEPTED) ↔ Enforced r (s ++ symbolOf (next r w))) (sym (answer r w n long)) (sym (follows r .ends))
+    (process r (hasClosed (history r)) (next r w) (declared (r .start .users) (r .start .roles) w) m k)
 
-    g : Reached (r .users) (r .roles) (r .words) (r .rows) p (final r) (accepted r)
-    g = reached r
-
-    i : Instance
-    i = final r
-
-    e : Request
-    e = readEvent (r .users) (r .roles) w
-
-    -- the word is read alike
-    same-event : readEvent (i .users) (i .roles) w ≡ e
-    same-event = ap₂ (λ x y. readEvent x y w) (g .follows .same-users) (g .follows .same-roles)
-
-    k : ℕ
-    k = code (eventRefusals i (readEvent (i .users) (i .roles) w) (length room))
-
-    is-code : k ≡ cond (i .closed) 10 (cond (isMalformed e) 7 (code (ownRefusals i e)))
-    is-code = ap (λ x. code (eventRefusals i x (length room))) same-event ∙ event-code i e (length room) l (is-formed i (g .follows .isFormed))
-
-    go : (c : Bool) → g .mark ≡ c → Follows (r .users) (r .roles) (r .words) (r .rows) p i (g .trace) (g .mark)
-        → (k ≡ 0) ↔ Accepts body (SOD (policy r) (r .users) (r .rows)) (accepted r ++ symbolOf e w)
-    go true o f = (
-      λ z. absurd (ten (sym (is-code ∙ ap (λ b. cond b 10 (cond (isMalformed e) 7 (code (ownRefusals i e)))) (f .same-mark ∙ o)) ∙ z)),
-      λ a. absurd (behind e m (subst (λ h. Accepts body (SOD (policy r) (r .users) (r .rows)) (h ++ symbolOf e w)) (g .is-run ∙ ap (ended (g .trace)) o) a)),
-    )
-      where
-        ten : _≡_ {A = ℕ} 10 0 → ⊥
-        ten z = omega arith
-
-        behind : (x : Request) → isMalformed x ≡ false → Accepts body (SOD (policy r) (r .users) (r .rows)) (finished (g .trace) ++ symbolOf x w) → ⊥
-        behind (Acts u) q a = nothing-follows-done (policy r) (r .rows) (λ v. ltb v (r .users)) (g .trace) (event (business u (w % 2 ^ 8))) [] a
-        behind (Grants u s) q a = nothing-follows-done (policy r) (r .rows) (λ v. ltb v (r .users)) (g .trace) (event (addUA u s)) [] a
-        behind (Revokes u s) q a = nothing-follows-done (policy r) (r .rows) (λ v. ltb v (r .users)) (g .trace) (event (rmUA u s)) [] a
-        behind Closes q a = nothing-follows-done (policy r) (r .rows) (λ v. ltb v (r .users)) (g .trace) done [] a
-        behind Malformed q a = true≢false q
-    go false o f = subst₂ (λ (x : ℕ) (h : List Symbol). (x ≡ 0) ↔ Accepts body (SOD (policy r) (r .users) (r .rows)) (h ++ symbolOf e w))
-        (sym open-code) (sym (g .is-run ∙ ap (ended (g .trace)) o))
-        (open-process (r .users) (r .roles) (r .words) (r .rows) p i (g .trace) (subst (Follows (r .users) (r .roles) (r .words) (r .rows) p i (g .trace)) o f) e w
-        (declared (r .users) (r .roles) w) m (λ z. n (open-code ∙ z)))
-      where
-        open-code : k ≡ cond (isMalformed e) 7 (code (ownRefusals i e))
-        open-code = is-code ∙ ap (λ b. cond b 10 (cond (isMalformed e) 7 (code (ownRefusals i e)))) (f .same-mark ∙ o)
-
-module _ (r : Run) (w : ℕ) (room : List ℕ) (l : 8192 ≤ length room) (q : readEvent (r .users) (r .roles) w ≡ Closes) (o : final r .closed ≡ false) where
-  closing : Reached (r .users) (r .roles) (r .words) (r .rows) (r .accepts) (final r) (accepted r)
-  closing = reached r
-
-  still-open : closing .mark ≡ false
-  still-open = sym (closing .follows .same-mark) ∙ o
-
-  unclosed : Follows (r .users) (r .roles) (r .words) (r .rows) (r .accepts) (final r) (closing .trace) false
-  unclosed = subst (Follows (r .users) (r .roles) (r .words) (r .rows) (r .accepts) (final r) (closing .trace)) still-open (closing .follows)
-
-  trace-unfinished : (t : Trace) → traceOf (unfinished t) ≡ t
-  trace-unfinished [] = refl
-  trace-unfinished (e ∷ t) = ap (λ s. e ∷ s) (trace-unfinished t)
-
-  same-trace : traceOf (accepted r) ≡ closing .trace
-  same-trace = ap traceOf (closing .is-run ∙ ap (ended (closing .trace)) still-open) ∙ trace-unfinished (closing .trace)
-
-  is-satisfied : satisfies (term (final r)) (takenOf (final r)) ≡ satisfied (policy r) 0 (noted (policy r) (r .rows) (closing .trace))
-  is-satisfied = satisfied-taken (r .users) (r .roles) (r .words) (r .rows) (r .accepts) (final r) (closing .trace) unclosed
-
-  close-code : outcome (final r) w room .code ≡ cond (not (satisfies (term (final r)) (takenOf (final r)))) 11 0
-  unfolding outcome
-  close-code =
-      ap (λ x. code (eventRefusals (final r) x (length room))) (ap₂ (λ x y. readEvent x y w) (closing .follows .same-users) (closing .follows .same-roles) ∙ q)
-      ∙ event-code (final r) Closes (length room) l (is-formed (final r) (closing .follows .isFormed))
-      ∙ ap (λ b. cond b 10 (cond (not (satisfies (term (final r)) (takenOf (final r)))) 11 0)) o
-
-  close-satisfied : (outcome (final r) w room .code ≡ 0) ↔ So (satisfied (policy r) 0 (noted (policy r) (r .rows) (closing .trace)))
-  close-satisfied = subst (λ k. (k ≡ 0) ↔ So (satisfied (policy r) 0 (noted (policy r) (r .rows) (closing .trace)))) (sym close-code)
-      (iff-trans (iff-trans (zero-code (not (satisfies (term (final r)) (takenOf (final r)))) 11 (omega arith)) (not-false (satisfies (term (final r)) (takenOf (final r))))) (so-iff is-satisfied))
-
-  status-satisfied : (statusOf (final r) room ≡ Complete) ↔ So (satisfied (policy r) 0 (noted (policy r) (r .rows) (closing .trace)))
-  unfolding statusOf statusRefusals
-  status-satisfied = subst (λ s. (s ≡ Complete) ↔ So (satisfied (policy r) 0 (noted (policy r) (r .rows) (closing .trace)))) (sym is-status) (iff-trans (complete-iff (satisfies (term (final r)) (takenOf (final r)))) (so-iff is-satisfied))
-    where
-      is-status : statusOf (final r) room ≡ cond (satisfies (term (final r)) (takenOf (final r))) Complete Open
-      is-status = rw (not-so (ltb (length room) 8192) (λ x. let k = so-lt (length room) 8192 x in omega arith), is-formed (final r) (closing .follows .isFormed), o)
-
-  formed-policy : So (wellFormed (policy r))
-  formed-policy = formed (r .users) (r .roles) (r .words) (r .rows) (r .accepts)
+pub eight-is-full : EightIsFull
+eight-is-full r w n long =
+    subst (λ (x : ℕ). (x ≡ FULL) ↔ (So (isAction (next r w)) × So (not (hasClosed (history r))) × (businessEvents (history r) ≡ 12))) (sym (answer r w n long))
+    (full r (hasClosed (history r)) (next r w))
 
 pub close-is-trace : CloseIsTrace
-close-is-trace r w room l q o = subst (λ t. ((outcome (final r) w room .code ≡ 0) ↔ SatT (r .rows) t (policy r)) × ((statusOf (final r) room ≡ Complete) ↔ SatT (r .rows) t (policy r)))
-    (sym (same-trace r w room l q o)) (
-      iff-trans (close-satisfied r w room l q o) (satisfied-is-trace (policy r) (formed-policy r w room l q o) (r .rows) (closing r w room l q o .trace)),
-      iff-trans (status-satisfied r w room l q o) (satisfied-is-trace (policy r) (formed-policy r w room l q o) (r .rows) (closing r w room l q o .trace)),
-    )
+close-is-trace r w n long q k = iff-trans (close r w n long q k) (satisfied-is-trace (φ r) (is-formed r) (r .start .rows) (t r))
 
 pub close-is-multiset : CloseIsMultiset
-close-is-multiset r w room l q o b = subst (λ t. (outcome (final r) w room .code ≡ 0) ↔ SatM (r .rows) (usersOf t) (policy r)) (sym (same-trace r w room l q o))
-    (iff-trans (close-satisfied r w room l q o)
-    (satisfied-is-multiset (policy r) (formed-policy r w room l q o) (r .rows) (closing r w room l q o .trace) (subst (λ t. So (businessOnly t)) (same-trace r w room l q o) b)))
+close-is-multiset r w n long q k b = iff-trans (close r w n long q k) (satisfied-is-multiset (φ r) (is-formed r) (r .start .rows) (t r) b)
+
+-- the three letters, of a mark and a judgement
+letters : (c s : Bool) {P : Type 0} → So s ↔ P
+    → ((cond c letterD (cond s letterC letterO) ≡ letterD) ↔ So c)
+    × ((cond c letterD (cond s letterC letterO) ≡ letterC) ↔ (So (not c) × P))
+    × ((cond c letterD (cond s letterC letterO) ≡ letterO) ↔ (So (not c) × (P → ⊥)))
+letters true s k = ((λ e. refl, λ e. refl), (λ e. absurd (omega arith), λ e. never (e .0)), (λ e. absurd (omega arith), λ e. never (e .0)))
+letters false true k = ((λ e. absurd (omega arith), λ e. never e), (λ e. (refl, k .0 refl), λ e. refl), (λ e. absurd (omega arith), λ e. absurd (e .1 (k .0 refl))))
+letters false false k = ((λ e. absurd (omega arith), λ e. never e), (λ e. absurd (omega arith), λ e. never (k .1 (e .1))), (λ e. (refl, λ x. never (k .1 x)), λ e. refl))
+
+pub status-is-trace : StatusIsTrace
+status-is-trace r n long =
+    subst (λ (x : ℕ). ((x ≡ letterD) ↔ So (hasClosed (history r)))
+    × ((x ≡ letterC) ↔ (So (not (hasClosed (history r))) × Satisfies r))
+    × ((x ≡ letterO) ↔ (So (not (hasClosed (history r))) × (Satisfies r → ⊥))))
+    (sym (letter-given (r .start) (r .opens) (left r) (history r) (follows r) n long))
+    (letters (hasClosed (history r)) (satisfied (φ r) 0 (noted (φ r) (r .start .rows) (t r))) (satisfied-is-trace (φ r) (is-formed r) (r .start .rows) (t r)))

@@ -1,16 +1,17 @@
 -- Document 01's twelve settled examples hold: one computed test over the whole table.
 use mathlib.Core.Path.{refl}
-use mathlib.Core.Bool.{So}
 use Rattle.soda.specs.Bits.{setBit, clearBit}
-use Rattle.soda.specs.Lists.{all}
 use Rattle.soda.specs.Tables.{table as judgements}
-use Rattle.policy.specs.Reading.{metOf}
+use Rattle.policy.specs.Reading.{metOf, readPolicy}
 use Rattle.normal.specs.NormalForms.{normalWords, normalRefusals, normalOut}
-use Rattle.monitor.specs.Instances.{blank, openRefusals, fresh, opening, wellFormed}
+use Rattle.monitor.specs.Configurations.{configurationOk}
+use Rattle.monitor.specs.Instances.{instanceOk}
+use Rattle.monitor.specs.Monitors.{openRefusals, fresh, opened, admission}
 use Rattle.monitor.specs.Events.{readEvent, eventRefusals}
-use Rattle.monitor.specs.MultisetTest.{testRefusals, verdict}
-use Rattle.claims.specs.Examples.{seen, holds, table}
+use Rattle.monitor.specs.MultisetTest.{testRefusals, testOf}
+use Rattle.monitor.specs.Runs.{run}
+use Rattle.claims.specs.Examples.{Settled}
 
-pub examples : So (all holds table)
-unfolding setBit clearBit judgements metOf normalWords normalRefusals normalOut blank openRefusals fresh opening wellFormed readEvent eventRefusals testRefusals verdict seen
-examples = refl
+pub settled : Settled
+unfolding setBit clearBit judgements metOf readPolicy normalWords normalRefusals normalOut configurationOk instanceOk openRefusals fresh opened admission readEvent eventRefusals testRefusals testOf run
+settled = refl

@@ -1,6 +1,10 @@
-pub mod Growth
+-- Demand 2.
+pub mod Follows
+pub mod Answers
 pub mod Accuracy
 pub mod Multisets
+-- Demand 3.
 pub mod Alike
 pub mod EqualForms
+-- The settled examples.
 pub mod Examples

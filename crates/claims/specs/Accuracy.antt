@@ -1,80 +1,136 @@
--- Demand 2: on an instance grown from an opening by events, the monitor answers what Definitions 3, 6 and 7 of document 004 say.
--- Statements only, about the definitions that the contracts of `open`, `event`, `status` and `satisfies` cite.
+-- Demand 2: after an opening and any events, the monitor answers what Definitions 3, 6 and 7 of document 004 say. Statements only.
+-- `eventCode` and `statusLetter` are fields of `outcome` and `statusOf`, which the contracts of `event` and `status` cite. Both are
+-- given the length of the workspace alone, so its contents play no part.
 use mathlib.Core.Path.{_≡_}
 use mathlib.Core.Logic.{_↔_}
-use mathlib.Core.Bool.{false, So}
+use mathlib.Core.Bool.{Bool, true, false, So, not, cond}
 use mathlib.Core.List.{List, [], _∷_, _++_}
-use Prim.Native.Nat.{ℕ, _≤_}
-use lib.ListN.{length}
-use Rattle.soda.specs.Terms.{Term}
-use Rattle.soda.specs.Multisets.{multiset, SatM}
-use Rattle.soda.specs.Traces.{Trace, businessOnly, users, SatT}
+use Prim.Native.Nat.{ℕ, _+_, _≤_}
+use lib.Dec.{ltb}
+use lib.ListN.{getD}
+use Rattle.soda.specs.Lists.{any}
+use Rattle.soda.specs.Multisets.{SatM}
+use Rattle.soda.specs.Traces.{admin, Trace, businessOnly, users, SatT}
 use Rattle.soda.specs.Csp.{Accepts}
-use Rattle.soda.specs.Processes.{Symbol, event, done, body, SOD}
-use Rattle.policy.specs.Words.{decode, termOf}
-use Rattle.monitor.specs.declared.Instance.{Instance}
-use Rattle.monitor.specs.declared.Event.the-variants.{Closes}
-use Rattle.monitor.specs.declared.Status.the-variants.{Complete}
-use Rattle.monitor.specs.declared.Verdict.the-variants.{Yes}
-use Rattle.monitor.specs.Instances.{openCode}
-use Rattle.monitor.specs.Events.{readEvent, isMalformed, outcome}
-use Rattle.monitor.specs.Statuses.{statusOf}
-use Rattle.monitor.specs.MultisetTest.{listed, testCode, verdict}
-use Rattle.claims.specs.Runs.{opened, Rooms, Long, grown, history, symbolOf}
+use Rattle.soda.specs.Processes.{Symbol, event, done, isDone, body, SOD}
+use Rattle.policy.specs.Codes.{ACCEPTED, FULL}
+use Rattle.monitor.specs.declared.Monitor.{Monitor}
+use Rattle.monitor.specs.declared.Event.{Event}
+use Rattle.monitor.specs.declared.Event.the-variants.{Acts, Grants, Revokes, Closes, Malformed}
+use Rattle.monitor.specs.Monitors.{Opening, policy, openCode, opened}
+use Rattle.monitor.specs.Events.{readEvent, isMalformed, eventCode}
+use Rattle.monitor.specs.Statuses.{letterD, letterC, letterO, statusLetter}
+use Rattle.monitor.specs.MultisetTest.{total, letterY, letterN, testOf}
+use Rattle.monitor.specs.Runs.{Lengths, Step, run, final, isAction}
+use Rattle.claims.specs.Runs.{symbolOf, accepted}
 
--- an opening answered 0, then any list of words as events, with workspaces long enough
+-- An opening answered 0, then any list of words as events, with workspaces of any lengths: an event whose workspace is too short is
+-- refused, as others are for other reasons.
 pub record Run : Type 0 where
-  pub users : ℕ
-  pub roles : ℕ
-  pub words : List ℕ
-  pub rows : List ℕ
-  pub accepts : openCode users roles words rows ≡ 0
+  pub start : Opening
+  pub opens : openCode start ≡ ACCEPTED
   pub events : List ℕ
-  pub rooms : Rooms
-  pub long : Long rooms
+  pub lengths : Lengths
 
-abbrev pub policy : Run → Term
-policy r = termOf (decode (r .words))
+abbrev pub steps : Run → List Step
+steps r = run (opened (r .start)) (r .events) (r .lengths)
 
--- the instance that the run leaves, and the run of its accepted events
-abbrev pub final : Run → Instance
-final r = grown (opened (r .users) (r .roles) (r .words) (r .rows)) (r .events) (r .rooms)
+-- the monitor that the run leaves, and its accepted events
+abbrev pub left : Run → Monitor
+left r = final (opened (r .start)) (steps r)
 
-abbrev pub accepted : Run → List Symbol
-accepted r = history (opened (r .users) (r .roles) (r .words) (r .rows)) (r .events) (r .rooms)
+abbrev pub history : Run → List Symbol
+history r = accepted (steps r)
 
--- the trace of a run without its closing event
+-- the next word, by the counts of the opening
+abbrev pub next : Run → ℕ → Event
+next r w = readEvent (r .start .users) (r .start .roles) w
+
+-- ── what the accepted events say ──
+-- their trace, without the closing event
 abbrev pub traceOf : List Symbol → Trace
 traceOf [] = []
 traceOf (event e ∷ l) = e ∷ traceOf l
 traceOf (done ∷ l) = traceOf l
 
+-- whether a close is among them
+abbrev pub hasClosed : List Symbol → Bool
+hasClosed l = any isDone l
+
+-- how many actions are among them
+abbrev pub businessEvents : List Symbol → ℕ
+businessEvents [] = 0
+businessEvents (event e ∷ l) = cond (admin e) 0 1 + businessEvents l
+businessEvents (done ∷ l) = businessEvents l
+
+-- there is room for an event: a monitor takes up to twelve actions, and any number of other events
+abbrev pub hasRoom : List Symbol → Event → Bool
+hasRoom l (Acts u a) = ltb (businessEvents l) 12
+hasRoom l (Grants u r) = true
+hasRoom l (Revokes u r) = true
+hasRoom l Closes = true
+hasRoom l Malformed = true
+
+-- the run satisfies its policy under the trace rules (Definition 6)
+abbrev pub Satisfies : Run → Type 0
+Satisfies r = SatT (r .start .rows) (traceOf (history r)) (policy (r .start))
+
+-- the enforcement process of its policy (Definition 8) has these events
+abbrev pub Enforced : Run → List Symbol → Type 1
+Enforced r l = Accepts body (SOD (policy (r .start)) (r .start .users) (r .start .rows)) l
+
+-- ── the claims ──
 -- The next word in the layout, be it an action, a grant, a revocation or a close, is answered 0 exactly when the enforcement
--- process has the run of accepted events followed by it. (8, a full instance, is no matter of the policy.)
+-- process has the accepted events followed by it. For an action fewer than twelve have been taken.
 abbrev pub EventIsProcess : Type 1
 EventIsProcess =
-    (r : Run) (w : ℕ) (room : List ℕ) → 8192 ≤ length room
-    → isMalformed (readEvent (r .users) (r .roles) w) ≡ false → (outcome (final r) w room .code ≡ 8 → ⊥)
-    → (outcome (final r) w room .code ≡ 0) ↔ Accepts body (SOD (policy r) (r .users) (r .rows)) (accepted r ++ symbolOf (readEvent (r .users) (r .roles) w) w)
+    (r : Run) (w n : ℕ) → 8192 ≤ n → isMalformed (next r w) ≡ false → So (hasRoom (history r) (next r w))
+    → (eventCode (left r) w n ≡ ACCEPTED) ↔ Enforced r (history r ++ symbolOf (next r w))
 
--- A close is answered 0 exactly when the run satisfies the policy under the trace rules, and the status is `c` exactly then. On an
--- instance that is not closed.
+-- 8 is answered exactly when the word is an action in the layout, no close has been accepted, and twelve actions have been.
+abbrev pub EightIsFull : Type 0
+EightIsFull =
+    (r : Run) (w n : ℕ) → 8192 ≤ n
+    → (eventCode (left r) w n ≡ FULL) ↔ (So (isAction (next r w)) × So (not (hasClosed (history r))) × (businessEvents (history r) ≡ 12))
+
+-- A close is answered 0 exactly when the run satisfies the policy under the trace rules. (No close has been accepted: 004's traces end
+-- with done.)
 abbrev pub CloseIsTrace : Type 0
 CloseIsTrace =
-    (r : Run) (w : ℕ) (room : List ℕ) → 8192 ≤ length room
-    → readEvent (r .users) (r .roles) w ≡ Closes → final r .closed ≡ false
-    → ((outcome (final r) w room .code ≡ 0) ↔ SatT (r .rows) (traceOf (accepted r)) (policy r))
-    × ((statusOf (final r) room ≡ Complete) ↔ SatT (r .rows) (traceOf (accepted r)) (policy r))
+    (r : Run) (w n : ℕ) → 8192 ≤ n → next r w ≡ Closes → So (not (hasClosed (history r)))
+    → (eventCode (left r) w n ≡ ACCEPTED) ↔ Satisfies r
 
 -- With no grant or revocation in the run, exactly when the multiset of its users does.
 abbrev pub CloseIsMultiset : Type 0
 CloseIsMultiset =
-    (r : Run) (w : ℕ) (room : List ℕ) → 8192 ≤ length room
-    → readEvent (r .users) (r .roles) w ≡ Closes → final r .closed ≡ false → So (businessOnly (traceOf (accepted r)))
-    → (outcome (final r) w room .code ≡ 0) ↔ SatM (r .rows) (users (traceOf (accepted r))) (policy r)
+    (r : Run) (w n : ℕ) → 8192 ≤ n → next r w ≡ Closes → So (not (hasClosed (history r))) → So (businessOnly (traceOf (history r)))
+    → (eventCode (left r) w n ≡ ACCEPTED) ↔ SatM (r .start .rows) (users (traceOf (history r))) (policy (r .start))
 
--- The multiset test says yes exactly when the multiset satisfies the policy by Definition 3.
+-- The status is `d` exactly when a close has been accepted; else it is `c` exactly when the run satisfies the policy under the trace
+-- rules, and `o` exactly when it does not.
+abbrev pub StatusIsTrace : Type 0
+StatusIsTrace =
+    (r : Run) (n : ℕ) → 8192 ≤ n
+    → ((statusLetter (left r) n ≡ letterD) ↔ So (hasClosed (history r)))
+    × ((statusLetter (left r) n ≡ letterC) ↔ (So (not (hasClosed (history r))) × Satisfies r))
+    × ((statusLetter (left r) n ≡ letterO) ↔ (So (not (hasClosed (history r))) × (Satisfies r → ⊥)))
+
+-- The input of a multiset test: a workspace long enough, an opening that would be accepted, no action by a user who is not declared, and
+-- twelve actions at most.
+pub record Testable (o : Opening) (counts : List ℕ) (n : ℕ) : Type 0 where
+  pub long : 8192 ≤ n
+  pub opens : openCode o ≡ ACCEPTED
+  pub declared : (u : ℕ) → o .users ≤ u → getD counts u 0 ≡ 0
+  pub few : total counts ≤ 12
+
+-- the multiset in which each user has its count satisfies the policy by Definition 3
+abbrev pub Counted : Opening → List ℕ → Type 0
+Counted o counts = SatM (o .rows) (λ u. getD counts u 0) (policy o)
+
+-- The multiset test says yes exactly when its input is such and the multiset satisfies the policy, and no exactly when its input is
+-- such and the multiset does not.
 abbrev pub TestIsMultiset : Type 0
 TestIsMultiset =
-    (users roles : ℕ) (words rows counts : List ℕ) (n : ℕ) → testCode users roles words rows counts n ≡ 0
-    → (verdict users roles words rows counts n ≡ Yes) ↔ SatM rows (multiset (listed 0 counts)) (termOf (decode words))
+    (o : Opening) (counts : List ℕ) (n : ℕ)
+    → ((testOf o counts n .letter ≡ letterY) ↔ (Testable o counts n × Counted o counts))
+    × ((testOf o counts n .letter ≡ letterN) ↔ (Testable o counts n × (Counted o counts → ⊥)))

@@ -6,33 +6,40 @@ use mathlib.Core.List.{List}
 use Prim.Native.Nat.{ℕ, _≤_}
 use lib.ListN.{length, take}
 use Rattle.soda.specs.Steps.{WordSteps}
+use Rattle.policy.specs.Codes.{ACCEPTED}
 use Rattle.policy.specs.Refusals.{code}
 use Rattle.policy.specs.Reading.{refusals}
 use Rattle.normal.specs.NormalForms.{normalOut}
-use Rattle.monitor.specs.Instances.{openCode}
-use Rattle.monitor.specs.Statuses.{statusOf}
-use Rattle.claims.specs.Runs.{opened, Rooms, Long, lines}
+use Rattle.monitor.specs.Monitors.{Opening, given, openCode, opened}
+use Rattle.monitor.specs.Statuses.{statusCode, statusLetter}
+use Rattle.monitor.specs.Runs.{Lengths, Enough, run}
+use Rattle.claims.specs.Runs.{lines}
 
 -- a policy is accepted when none of 5 and 1 to 4 applies
 abbrev pub IsAccepted : ℕ → ℕ → List ℕ → Type 0
-IsAccepted users roles words = code (refusals users roles words) ≡ 0
+IsAccepted users roles words = code (refusals users roles words) ≡ ACCEPTED
 
 -- Its normal form: the words that the call writes into an output long enough.
 abbrev pub normal : ℕ → ℕ → List ℕ → List ℕ → List ℕ
 normal users roles words out = take (length words) (normalOut users roles words out)
 
--- Two accepted policies over the same counts have the same normal form exactly when exchanges and regroupings lead from one to the
--- other; and then, opened on the same grants, they give every list of 32-bit words the same number for each event and the same
--- status at the opening and after each event, with whatever workspaces long enough.
-pub record Alike (users roles : ℕ) (v w : List ℕ) : Type 0 where
-  pub form : (out out′ : List ℕ) → length v ≤ length out → length w ≤ length out′
-      → (normal users roles v out ≡ normal users roles w out′) ↔ WordSteps v w
-  pub status : WordSteps v w → (rows : List ℕ) → openCode users roles v rows ≡ 0 → openCode users roles w rows ≡ 0
-      → (room room′ : List ℕ) → 8192 ≤ length room → 8192 ≤ length room′
-      → statusOf (opened users roles v rows) room ≡ statusOf (opened users roles w rows) room′
-  pub events : WordSteps v w → (rows : List ℕ) → openCode users roles v rows ≡ 0 → openCode users roles w rows ≡ 0
-      → (ws : List ℕ) (rooms rooms′ : Rooms) → Long rooms → Long rooms′
-      → lines (opened users roles v rows) ws rooms ≡ lines (opened users roles w rows) ws rooms′
+-- The monitors that two openings leave have the same status, and they give every list of 32-bit words the same number for each event and
+-- the same status after it. Every call may have its own workspace, long enough: only its length is passed, so its contents play no part.
+pub record AnsweredAlike (o p : Opening) : Type 0 where
+  pub status : (n n′ : ℕ) → 8192 ≤ n → 8192 ≤ n′
+      → (statusCode (opened o) n ≡ statusCode (opened p) n′) × (statusLetter (opened o) n ≡ statusLetter (opened p) n′)
+  pub events : (ws : List ℕ) (n n′ : Lengths) → Enough n → Enough n′ → lines (run (opened o) ws n) ≡ lines (run (opened p) ws n′)
+
+-- Two accepted policies over the same counts, and an output long enough for each: they have the same normal form exactly when exchanges
+-- and regroupings lead from one to the other. If they have the same normal form then, opened on the same grants, they are answered
+-- alike.
+pub record Alike (users roles : ℕ) (v w out out′ : List ℕ) : Type 0 where
+  pub form : (normal users roles v out ≡ normal users roles w out′) ↔ WordSteps v w
+  pub answers : normal users roles v out ≡ normal users roles w out′ → (rows : List ℕ)
+      → openCode (given users roles v rows) ≡ ACCEPTED → openCode (given users roles w rows) ≡ ACCEPTED
+      → AnsweredAlike (given users roles v rows) (given users roles w rows)
 
 abbrev pub EqualForms : Type 0
-EqualForms = (users roles : ℕ) (v w : List ℕ) → IsAccepted users roles v → IsAccepted users roles w → Alike users roles v w
+EqualForms =
+    (users roles : ℕ) (v w : List ℕ) → IsAccepted users roles v → IsAccepted users roles w
+    → (out out′ : List ℕ) → length v ≤ length out → length w ≤ length out′ → Alike users roles v w out out′

@@ -1,33 +1,27 @@
--- Document 01's twelve settled examples in one table, over the definitions that the contracts cite. P1 is without its printing.
-use mathlib.Core.Bool.{Bool, true, false, not, _&&_}
-use mathlib.Core.List.{List, [], _∷_, _++_}
-use Prim.Native.Nat.{ℕ, _-_}
+-- Document 01's twelve settled examples in one table, and the claim that they hold, over the definitions that the contracts cite. P1 is
+-- without its printing.
+use mathlib.Core.Bool.{Bool, true, false, So, _&&_, cond}
+use mathlib.Core.List.{List, [], _∷_}
+use Prim.Native.Nat.{ℕ}
 use lib.Dec.{eqb}
 use lib.ListN.{length, take, replicate}
-use Rattle.policy.specs.Refusals.{code}
-use Rattle.policy.specs.Reading.{refusals}
+use Rattle.soda.specs.Lists.{all, padded}
+use Rattle.policy.specs.Reading.{readPolicy, numberOf}
 use Rattle.normal.specs.NormalForms.{normalOut}
-use Rattle.monitor.specs.declared.Instance.{Instance}
-use Rattle.monitor.specs.declared.Verdict.{Verdict}
-use Rattle.monitor.specs.declared.Verdict.the-variants.{Yes, No, Refused}
-use Rattle.monitor.specs.Instances.{opening}
-use Rattle.monitor.specs.Events.{eventCode, eventInstance}
-use Rattle.monitor.specs.Statuses.{standing, letter}
-use Rattle.monitor.specs.MultisetTest.{verdict}
+use Rattle.monitor.specs.Monitors.{Opening, given, openCode, opened}
+use Rattle.monitor.specs.Statuses.{letterD, letterC, letterO}
+use Rattle.monitor.specs.MultisetTest.{letterY, letterN, testOf}
+use Rattle.monitor.specs.Runs.{run}
+use Rattle.claims.specs.Runs.{Line, lines}
 
--- A run: counts, policy words, grants, event words, and the number and status letter expected after each. A multiset test: counts,
--- policy words, grants, how often each user acts, and whether the answer is yes. A normal form: counts, policy words and what its
--- words begin with. A policy: counts, words and the number.
+-- A list of events: what the opening is given, the event words, and what is expected after each. A multiset test: what it is given, how
+-- often each user acts, and whether the answer is yes. A normal form: counts, policy words and what its words begin with. A policy:
+-- counts, words and the number.
 pub data Example : Type 0 where
-  run : ℕ → ℕ → List ℕ → List ℕ → List ℕ → List (ℕ × ℕ) → Example
-  test : ℕ → ℕ → List ℕ → List ℕ → List ℕ → Bool → Example
+  events : Opening → List ℕ → List Line → Example
+  test : Opening → List ℕ → Bool → Example
   normal : ℕ → ℕ → List ℕ → List ℕ → Example
   number : ℕ → ℕ → List ℕ → ℕ → Example
-
--- what is seen after each event, with workspaces of 8,192 words
-unfoldable pub seen : Instance → List ℕ → List (ℕ × ℕ)
-seen i [] = []
-seen i (w ∷ ws) = (eventCode i w 8192, letter (standing (eventInstance i w 8192))) ∷ seen (eventInstance i w 8192) ws
 
 abbrev pub sameNumbers : List ℕ → List ℕ → Bool
 sameNumbers [] [] = true
@@ -35,23 +29,18 @@ sameNumbers [] (y ∷ m) = false
 sameNumbers (x ∷ l) [] = false
 sameNumbers (x ∷ l) (y ∷ m) = eqb x y && sameNumbers l m
 
-abbrev pub samePairs : List (ℕ × ℕ) → List (ℕ × ℕ) → Bool
-samePairs [] [] = true
-samePairs [] (y ∷ m) = false
-samePairs (x ∷ l) [] = false
-samePairs (x ∷ l) (y ∷ m) = eqb (x .0) (y .0) && (eqb (x .1) (y .1) && samePairs l m)
+abbrev pub sameLines : List Line → List Line → Bool
+sameLines [] [] = true
+sameLines [] (y ∷ m) = false
+sameLines (x ∷ l) [] = false
+sameLines (x ∷ l) (y ∷ m) = eqb (x .0) (y .0) && (eqb (x .1) (y .1) && (eqb (x .2) (y .2) && sameLines l m))
 
-abbrev pub isVerdict : Bool → Verdict → Bool
-isVerdict b Yes = b
-isVerdict b No = not b
-isVerdict b (Refused k) = false
-
+-- every call has a workspace of 8,192 words, the normal form an output of 31
 abbrev pub holds : Example → Bool
-holds (run users roles words rows events expected) =
-    eqb (opening users roles words rows .code) 0 && samePairs (seen (opening users roles words rows .instance) events) expected
-holds (test users roles words rows counts b) = isVerdict b (verdict users roles words rows (counts ++ replicate (16 - length counts) 0) 8192)
+holds (events start words expected) = eqb (openCode start) 0 && sameLines (lines (run (opened start) words (λ k. 8192))) expected
+holds (test start counts b) = eqb (testOf start (padded 16 counts) 8192 .letter) (cond b letterY letterN)
 holds (normal users roles words expected) = sameNumbers (take (length expected) (normalOut users roles words (replicate 31 0))) expected
-holds (number users roles words k) = eqb (code (refusals users roles words)) k
+holds (number users roles words k) = eqb (numberOf (readPolicy users roles words)) k
 
 -- policy F (Example 3 of document 004)
 abbrev pub F : List ℕ
@@ -66,36 +55,36 @@ G = 0x08000000 ∷ 0x02000002 ∷ 0x04000000 ∷ 0x02000002 ∷ []
 abbrev pub H : List ℕ
 H = 0x08000000 ∷ 0x03000002 ∷ 0x08000000 ∷ 0x03000002 ∷ 0x05000000 ∷ 0x03000002 ∷ []
 
--- a number with the letter o, c or d
-abbrev pub o : ℕ → ℕ × ℕ
-o k = (k, 111)
+-- an event's number, and after it a status that is not refused, with the letter o, c or d
+abbrev pub o : ℕ → Line
+o k = (k, 0, letterO)
 
-abbrev pub c : ℕ → ℕ × ℕ
-c k = (k, 99)
+abbrev pub c : ℕ → Line
+c k = (k, 0, letterC)
 
-abbrev pub d : ℕ → ℕ × ℕ
-d k = (k, 100)
+abbrev pub d : ℕ → Line
+d k = (k, 0, letterD)
 
 abbrev pub table : List Example
 table =
     -- P1: listing L
-    run 3 3 F (2 ∷ 1 ∷ 0 ∷ [])
+    events (given 3 3 F (2 ∷ 1 ∷ 0 ∷ []))
     (0x01000001 ∷ 0x01000102 ∷ 0x02000102 ∷ 0x02000202 ∷ 0x04000000 ∷ 0x01000203 ∷ 0x01000004 ∷ 0x04000000 ∷ 0x01000004 ∷ [])
     (o 0 ∷ o 0 ∷ o 0 ∷ o 0 ∷ o 11 ∷ c 0 ∷ c 0 ∷ d 0 ∷ d 10 ∷ [])
     -- P2, P3, P4
-    ∷ test 3 3 F (2 ∷ 5 ∷ 4 ∷ []) (2 ∷ 1 ∷ 1 ∷ []) true
-    ∷ test 3 3 F (2 ∷ 5 ∷ 4 ∷ []) (1 ∷ 0 ∷ 1 ∷ []) false
-    ∷ test 3 3 F (2 ∷ 5 ∷ 4 ∷ []) (1 ∷ 1 ∷ []) false
+    ∷ test (given 3 3 F (2 ∷ 5 ∷ 4 ∷ [])) (2 ∷ 1 ∷ 1 ∷ []) true
+    ∷ test (given 3 3 F (2 ∷ 5 ∷ 4 ∷ [])) (1 ∷ 0 ∷ 1 ∷ []) false
+    ∷ test (given 3 3 F (2 ∷ 5 ∷ 4 ∷ [])) (1 ∷ 1 ∷ []) false
     -- P5: user 2 acts first
-    ∷ run 3 3 F (2 ∷ 1 ∷ 0 ∷ []) (0x01000200 ∷ []) (o 9 ∷ [])
+    ∷ events (given 3 3 F (2 ∷ 1 ∷ 0 ∷ [])) (0x01000200 ∷ []) (o 9 ∷ [])
     -- P6: grant user 1 role 2, act, withdraw, act, close
-    ∷ run 3 3 G (0 ∷ 0 ∷ 0 ∷ []) (0x02000102 ∷ 0x01000100 ∷ 0x03000102 ∷ 0x01000100 ∷ 0x04000000 ∷ []) (o 0 ∷ o 0 ∷ o 0 ∷ c 0 ∷ d 0 ∷ [])
+    ∷ events (given 3 3 G (0 ∷ 0 ∷ 0 ∷ [])) (0x02000102 ∷ 0x01000100 ∷ 0x03000102 ∷ 0x01000100 ∷ 0x04000000 ∷ []) (o 0 ∷ o 0 ∷ o 0 ∷ c 0 ∷ d 0 ∷ [])
     -- P7: user 0 makes the first action
-    ∷ run 3 3 G (0 ∷ 0 ∷ 0 ∷ []) (0x02000102 ∷ 0x01000000 ∷ 0x03000102 ∷ 0x01000100 ∷ []) (o 0 ∷ o 0 ∷ o 0 ∷ o 9 ∷ [])
+    ∷ events (given 3 3 G (0 ∷ 0 ∷ 0 ∷ [])) (0x02000102 ∷ 0x01000000 ∷ 0x03000102 ∷ 0x01000100 ∷ []) (o 0 ∷ o 0 ∷ o 0 ∷ o 9 ∷ [])
     -- P8: two of her actions o, three c, four c
-    ∷ run 2 1 H (0 ∷ 1 ∷ []) (0x01000100 ∷ 0x01000100 ∷ 0x01000100 ∷ 0x01000100 ∷ []) (o 0 ∷ o 0 ∷ c 0 ∷ c 0 ∷ [])
+    ∷ events (given 2 1 H (0 ∷ 1 ∷ [])) (0x01000100 ∷ 0x01000100 ∷ 0x01000100 ∷ 0x01000100 ∷ []) (o 0 ∷ o 0 ∷ c 0 ∷ c 0 ∷ [])
     -- P9: apart(role 0, role 0), one user
-    ∷ run 1 1 (0x09000000 ∷ 0x02000000 ∷ 0x02000000 ∷ []) (1 ∷ []) (0x01000000 ∷ 0x01000000 ∷ []) (o 0 ∷ o 9 ∷ [])
+    ∷ events (given 1 1 (0x09000000 ∷ 0x02000000 ∷ 0x02000000 ∷ []) (1 ∷ [])) (0x01000000 ∷ 0x01000000 ∷ []) (o 0 ∷ o 9 ∷ [])
     -- P10: the normal form of F
     ∷ normal 3 3 F (0x08000000 ∷ 0x05000000 ∷ 0x01000000 ∷ 0x09000000 ∷ 0x02000000 ∷ 0x06000000 ∷ [])
     -- P11: both(everyone, everyone) is its own
@@ -103,3 +92,6 @@ table =
     -- P12: plus over together
     ∷ number 3 3 (0x05000000 ∷ 0x08000000 ∷ 0x01000000 ∷ 0x01000000 ∷ []) 4
     ∷ []
+
+abbrev pub Settled : Type 0
+Settled = So (all holds table)

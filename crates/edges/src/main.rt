@@ -1,5 +1,5 @@
 // The edges that document 01 names, run through the calls: each line is what was asked and the number that it was answered.
-use monitor::Instance;
+use monitor::Monitor;
 use monitor::Status;
 use monitor::Verdict;
 
@@ -112,38 +112,39 @@ fn say_verdict(asked: &[u8], verdict: Verdict) {
 fn words() {
     let rows = [1u16];
     let longest = LONGEST;
-    say(b"31 words: ", Instance::open(1, 1, &longest, &rows).code);
+    say(b"31 words: ", Monitor::open(1, 1, &longest, &rows).code);
     let longer = TOO_LONG;
-    say(b"32 words: ", Instance::open(1, 1, &longer, &rows).code);
+    say(b"32 words: ", Monitor::open(1, 1, &longer, &rows).code);
 }
 
 fn users() {
     let rows = [1u16; 16];
     let plus = PLUS;
-    say(b"16 users: ", Instance::open(16, 1, &plus, &rows).code);
+    say(b"16 users: ", Monitor::open(16, 1, &plus, &rows).code);
     let more = [1u16; 17];
-    say(b"17 users: ", Instance::open(17, 1, &plus, &more).code);
+    say(b"17 users: ", Monitor::open(17, 1, &plus, &more).code);
     let roles = [0xffffu16];
-    say(b"16 roles: ", Instance::open(1, 16, &plus, &roles).code);
-    say(b"17 roles: ", Instance::open(1, 17, &plus, &roles).code);
+    say(b"16 roles: ", Monitor::open(1, 16, &plus, &roles).code);
+    say(b"17 roles: ", Monitor::open(1, 17, &plus, &roles).code);
 }
 
 // One action by user 0; prints its number.
-fn act(instance: Instance) -> Instance {
+fn act(monitor: Monitor) -> Monitor {
     let mut room = [0u32; 8192];
-    let answer = instance.event(0x0100_0000, &mut room);
+    let answer = monitor.event(0x0100_0000, &mut room);
     say(b"action: ", answer.code);
-    answer.instance
+    answer.monitor
 }
 
-// Thirteen actions by one user: twelve are taken, the next finds the instance full.
+// Thirteen actions by one user: twelve are taken, the next finds the monitor full.
 fn actions() {
     let rows = [1u16];
     let plus = PLUS;
-    let four = act(act(act(act(Instance::open(1, 1, &plus, &rows).instance))));
+    let four = act(act(act(act(Monitor::open(1, 1, &plus, &rows).monitor))));
     let eight = act(act(act(act(four))));
     let full = act(act(act(act(act(eight)))));
-    say(b"taken: ", full.taken);
+    let instance = full.instance;
+    say(b"taken: ", instance.taken);
     let mut room = [0u32; 8192];
     say_status(b"status: ", full.status(&mut room));
 }
@@ -151,15 +152,15 @@ fn actions() {
 fn workspaces() {
     let rows = [1u16];
     let plus = PLUS;
-    let instance = Instance::open(1, 1, &plus, &rows).instance;
+    let opened = Monitor::open(1, 1, &plus, &rows).monitor;
     let mut counts = [0u8; 16];
     counts[0] = 1;
     let mut short = [0u32; 8191];
     say(
         b"8191 words, action: ",
-        instance.event(0x0100_0000, &mut short).code,
+        opened.event(0x0100_0000, &mut short).code,
     );
-    say_status(b"8191 words, status: ", instance.status(&mut short));
+    say_status(b"8191 words, status: ", opened.status(&mut short));
     say_verdict(
         b"8191 words, multiset: ",
         monitor::satisfies(1, 1, &plus, &rows, counts, &mut short),
@@ -167,9 +168,9 @@ fn workspaces() {
     let mut room = [0u32; 8192];
     say(
         b"8192 words, action: ",
-        instance.event(0x0100_0000, &mut room).code,
+        opened.event(0x0100_0000, &mut room).code,
     );
-    say_status(b"8192 words, status: ", instance.status(&mut room));
+    say_status(b"8192 words, status: ", opened.status(&mut room));
     say_verdict(
         b"8192 words, multiset: ",
         monitor::satisfies(1, 1, &plus, &rows, counts, &mut room),

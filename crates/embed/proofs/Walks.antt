@@ -1,4 +1,4 @@
--- What the walks over a borrowed instance share: steps that open and close its borrow, read and set a local, take a callee's answer
+-- What the walks over a borrowed monitor share: steps that open and close its borrow, read and set a local, take a callee's answer
 -- and let a local go; and how a walk of a function's code makes its theorem. What the monitor's definitions say is used nowhere.
 use mathlib.Core.Path.{_≡_, refl, sym, ap, subst}
 use mathlib.Core.List.{List, [], _∷_}
@@ -31,45 +31,45 @@ use denote.Triple.Spec.{Meets, tripleOf}
 use denote.Triple.Table.{entered}
 use denote.Triple.Clauses.{Clauses, Ended, Lasts, atExit, lasts, closing}
 use denote.Triple.Walked.{Stays, AllGo, walkOf, walked, walk-meets}
-use Rattle.monitor.specs.declared.Instance.{Instance}
+use Rattle.monitor.specs.declared.Monitor.{Monitor}
 use Rattle.monitor.specs.declared.Answer.{Answer}
-use Rattle.monitor.proofs.Instance as I
-use Rattle.monitor.proofs.Instance.Laws as I′
+use Rattle.monitor.proofs.Monitor as I
+use Rattle.monitor.proofs.Monitor.Laws as I′
 use Rattle.monitor.proofs.Answer as N
 use Rattle.monitor.proofs.Answer.Laws as N′
 
--- the machine value of an instance, and that it is one
-abbrev pub mach : Instance → Val
+-- the machine value of a monitor, and that it is one
+abbrev pub mach : Monitor → Val
 mach h = LL.val I.the-type I′.the-laws h
 
-abbrev pub IsInstance : Instance → Type 0
-IsInstance h = Is I.the-row h (mach h ∷ [])
+abbrev pub IsMonitor : Monitor → Type 0
+IsMonitor h = Is I.the-row h (mach h ∷ [])
 
 -- what an answer's relation says of its two fields
 pub code-fits : (r : Answer) → Is N.the-row r (LL.vals N.the-type N′.the-laws r) → r .code < 2 ^ 8
 code-fits r is = LL.owed N.the-type N′.the-laws r _ is .0 .1
 
-pub instance-is : (r : Answer) → Is N.the-row r (LL.vals N.the-type N′.the-laws r) → IsInstance (r .instance)
-instance-is r is = LL.owed N.the-type N′.the-laws r _ is .1 .0
+pub monitor-is : (r : Answer) → Is N.the-row r (LL.vals N.the-type N′.the-laws r) → IsMonitor (r .monitor)
+monitor-is r is = LL.owed N.the-type N′.the-laws r _ is .1 .0
 
--- ── the borrow of an instance ──
--- an open `&mut` borrow, but for the instance's cell
-abbrev pub opened : {M : Type 1} {𝓤 : URA M} → Lft → Share → RefT Instance → Item 𝓤
+-- ── the borrow of a monitor ──
+-- an open `&mut` borrow, but for the monitor's cell
+abbrev pub opened : {M : Type 1} {𝓤 : URA M} → Lft → Share → RefT Monitor → Item 𝓤
 opened κ q i =
     ‵ (fobor κ q (Body (mem I.the-row) (i .ptr .0) (i .ptr .1) (i .name)))
     ⊛ ‵ (fobs (i .name) (I.the-row .coded .code (i .now)))
     ⊛ ‵ (fauth (i .name) (I.the-row .coded .code (i .now)))
 
 module _ {M : Type 1} {𝓤 : URA M} {H : Heap 𝓤} {A : Atoms 𝓤} {K : Type 0} {W : Given 𝓤 H A} {Γ : List (Item 𝓤)} {G : Goal 𝓤 H} where
-  -- what lies behind a reference to an instance, as a cell that code reads and writes; and back
-  as-cell : K → (p : Share) (h : Instance) (vs : List Val) (b o : ℕ) → (IsInstance h → Seq K W (‵ (fat p I′.mir b o (mach h)) ∷ Γ) G)
+  -- what lies behind a reference to a monitor, as a cell that code reads and writes; and back
+  as-cell : K → (p : Share) (h : Monitor) (vs : List Val) (b o : ℕ) → (IsMonitor h → Seq K W (‵ (fat p I′.mir b o (mach h)) ∷ Γ) G)
       → Seq K W (‵ (cellAt p (I.the-row .mir) vs b o) ∷ ‵ (I.the-row .own h vs) ∷ Γ) G
   as-cell t p h vs b o k =
       spelt t I.the-row (Is I.the-row) (shows 𝓤 H A I.the-row) (LL.vals I.the-type I′.the-laws) (LL.tells I.the-type I′.the-laws) p h vs b o $
       use1 W (‵ (fat p I′.mir b o (mach h))) (W .laws .raw-at p I′.mir b o (mach h)) $
       move t (1 ∷ []) $ facts t I.the-row (Is I.the-row) (shows 𝓤 H A I.the-row) h (mach h ∷ []) k
 
-  of-cell : K → (p : Share) (h : Instance) (b o : ℕ) → IsInstance h
+  of-cell : K → (p : Share) (h : Monitor) (b o : ℕ) → IsMonitor h
       → Step K W (‵ (cellAt p (I.the-row .mir) (mach h ∷ []) b o) ∷ ‵ (I.the-row .own h (mach h ∷ [])) ∷ Γ) G (‵ (fat p I′.mir b o (mach h)) ∷ Γ) G
   of-cell t p h b o g = step (λ s.
       use1 W (‵ (cellAt p (I.the-row .mir) (mach h ∷ []) b o)) (W .laws .at-raw p I′.mir b o (mach h)) $
@@ -77,34 +77,34 @@ module _ {M : Type 1} {𝓤 : URA M} {H : Heap 𝓤} {A : Atoms 𝓤} {K : Type 
 
 module _ {M : Type 1} {𝓤 : URA M} {H : Heap 𝓤} {A : Atoms 𝓤} {K : Type 0} {W : Given 𝓤 H A} {Γ : List (Item 𝓤)} {G : Goal 𝓤 H} where
   -- a `&mut` is opened
-  pub opens-instance : K → Soaks G → {κ : Lft} {q : Share} (i : RefT Instance)
-      → (IsInstance (i .now) → Seq K W (‵ (fat fullShare I′.mir (i .ptr .0) (i .ptr .1) (mach (i .now))) ∷ opened κ q i ∷ Γ) G)
+  pub opens-monitor : K → Soaks G → {κ : Lft} {q : Share} (i : RefT Monitor)
+      → (IsMonitor (i .now) → Seq K W (‵ (fat fullShare I′.mir (i .ptr .0) (i .ptr .1) (mach (i .now))) ∷ opened κ q i ∷ Γ) G)
       → Seq K W (‵ (MutRef (named 0) κ I.the-row .own i (ptr-vals i)) ∷ ‵ (flft κ q) ∷ Γ) G
-  opens-instance t z i k =
+  opens-monitor t z i k =
       fsplit3 t $ drop t $ opens t z I.the-row {h = i .now} (i .ptr .0) (i .ptr .1) (λ vs. as-cell t fullShare (i .now) vs (i .ptr .0) (i .ptr .1) (λ g.
       move t (2 ∷ 3 ∷ []) $ join t $ move t (2 ∷ 0 ∷ []) $ join t $ move t (1 ∷ 0 ∷ []) $ k g))
 
-  -- and closed at the instance that lies in its cell
-  pub closes-instance : K → Soaks G → {κ : Lft} {q : Share} (i : RefT Instance) (h : Instance) → IsInstance h
+  -- and closed at the monitor that lies in its cell
+  pub closes-monitor : K → Soaks G → {κ : Lft} {q : Share} (i : RefT Monitor) (h : Monitor) → IsMonitor h
       → Step K W (‵ (MutRef (named 0) κ I.the-row .own (at-last i h) (ptr-vals i)) ∷ ‵ (flft κ q) ∷ Γ) G (‵ (fat fullShare I′.mir (i .ptr .0) (i .ptr .1) (mach h)) ∷ opened κ q i ∷ Γ) G
-  closes-instance t z i h g = step (λ s.
+  closes-monitor t z i h g = step (λ s.
       of-cell t fullShare h (i .ptr .0) (i .ptr .1) g $ move t (2 ∷ []) $ split3 t $ move t (3 ∷ 4 ∷ 0 ∷ 1 ∷ 2 ∷ []) $
       closes t z I.the-row h (mach h ∷ []) (i .ptr .0) (i .ptr .1) $ feqI t (List Val) (ptr-vals i) (ptr-vals i) refl $ fjoin3 t $ s)
 
   -- a `&` is looked into
-  pub looks-instance : K → Soaks G → {κ : Lft} {q : Share} (i : RefT Instance)
-      → ((p : Share) → IsInstance (i .now)
+  pub looks-monitor : K → Soaks G → {κ : Lft} {q : Share} (i : RefT Monitor)
+      → ((p : Share) → IsMonitor (i .now)
       → Seq K W (‵ (fat p I′.mir (i .ptr .0) (i .ptr .1) (mach (i .now))) ∷ ‵ (fobor κ q (partAt I.the-row p (i .now) (i .ptr .0) (i .ptr .1))) ∷ Γ) G)
       → Seq K W (‵ (ShrRef (named 0) κ I.the-row .own i (ptr-vals i)) ∷ ‵ (flft κ q) ∷ Γ) G
-  looks-instance t z i k =
+  looks-monitor t z i k =
       fsplit3 t $ drop t $ drop t $
       looks t z I.the-row (Is I.the-row) (shows 𝓤 H A I.the-row) (LL.vals I.the-type I′.the-laws) (LL.tells I.the-type I′.the-laws) (LL.copy I.the-type I′.the-copy 𝓤 H A W) (i .now) (i .ptr .0) (i .ptr .1)
       (λ p vs. as-cell t p (i .now) vs (i .ptr .0) (i .ptr .1) (λ g. move t (2 ∷ []) $ drop t $ k p g))
 
   -- and shut again
-  pub shuts-instance : K → Soaks G → {κ : Lft} {q : Share} (p : Share) (i : RefT Instance) → IsInstance (i .now)
+  pub shuts-monitor : K → Soaks G → {κ : Lft} {q : Share} (p : Share) (i : RefT Monitor) → IsMonitor (i .now)
       → Step K W (‵ (flft κ q) ∷ Γ) G (‵ (fat p I′.mir (i .ptr .0) (i .ptr .1) (mach (i .now))) ∷ ‵ (fobor κ q (partAt I.the-row p (i .now) (i .ptr .0) (i .ptr .1))) ∷ Γ) G
-  shuts-instance t z p i g = step (λ s. of-cell t p (i .now) (i .ptr .0) (i .ptr .1) g $ shuts t z I.the-row p (i .now) (mach (i .now) ∷ []) (i .ptr .0) (i .ptr .1) $ s)
+  shuts-monitor t z p i g = step (λ s. of-cell t p (i .now) (i .ptr .0) (i .ptr .1) g $ shuts t z I.the-row p (i .now) (mach (i .now) ∷ []) (i .ptr .0) (i .ptr .1) $ s)
 
 -- ── locals ──
 module _ {M : Type 1} {𝓤 : URA M} {H : Heap 𝓤} {A : Atoms 𝓤} {K : Type 0} {W : Given 𝓤 H A} {Γ : List (Item 𝓤)} where

@@ -1,20 +1,18 @@
--- The byte by which an exported call answers where the monitor answers with an enum: the letters are no number of a refusal.
+-- The byte by which an exported call answers where the monitor answers with an enum: the letter where the number is 0, else the number.
+-- No letter is the number of a refusal.
+use mathlib.Core.Bool.{cond}
 use Prim.Native.Nat.{ℕ}
-use Rattle.monitor.specs.declared.Status.{Status}
-use Rattle.monitor.specs.declared.Status.the-variants.{Closed, Complete, Open, Refused as StatusRefused}
-use Rattle.monitor.specs.Statuses.{letter}
-use Rattle.monitor.specs.declared.Verdict.{Verdict}
-use Rattle.monitor.specs.declared.Verdict.the-variants.{Yes, No, Refused}
+use lib.Dec.{eqb}
+use Rattle.monitor.specs.Statuses.{StatusOutcome}
+use Rattle.monitor.specs.MultisetTest.{TestOutcome}
 
--- document 01: "Standing: `d` closed, else `c` if the taken actions satisfy, else `o`"; a refusal is its number, 12 or 15
-abbrev pub statusByte : Status → ℕ
-statusByte Closed = letter Closed
-statusByte Complete = letter Complete
-statusByte Open = letter Open
-statusByte (StatusRefused k) = k
+abbrev pub byteOf : ℕ → ℕ → ℕ
+byteOf code letter = cond (eqb code 0) letter code
 
--- document 01: "does the bag satisfy the policy by Definition 3?": `y` or `n`; a refusal is its number
-abbrev pub verdictByte : Verdict → ℕ
-verdictByte Yes = 121
-verdictByte No = 110
-verdictByte (Refused k) = k
+-- `d`, `c` or `o`, or a number
+abbrev pub statusByte : StatusOutcome → ℕ
+statusByte s = byteOf (s .code) (s .letter)
+
+-- `y` or `n`, or a number
+abbrev pub verdictByte : TestOutcome → ℕ
+verdictByte v = byteOf (v .code) (v .letter)

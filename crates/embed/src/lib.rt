@@ -1,20 +1,21 @@
-// What a desk program links: the monitor's calls, exported for C, over an instance where the program keeps it. A slice passes as its
+// What a desk program links: the monitor's calls, exported for C, over a monitor where the program keeps it. A slice passes as its
 // pointer, then its length.
 ghost use mathlib.Core.Path.{_≡_};
 ghost use lib.ListN.{length};
 ghost use Rattle.normal.specs.NormalForms.{normalCode, normalOut};
-ghost use Rattle.monitor.specs.Instances.{opening};
+ghost use Rattle.monitor.specs.Monitors.{given, opening};
 ghost use Rattle.monitor.specs.Events.{outcome};
-ghost use Rattle.monitor.specs.Statuses.{statusOf, statusWorkspace};
-ghost use Rattle.monitor.specs.MultisetTest.{verdict, Numbered};
-ghost use Rattle.embed.specs.Bytes.{statusByte, verdictByte};
-use monitor::Instance;
+ghost use Rattle.monitor.specs.Statuses.{statusOf, statusNumber, letter};
+ghost use Rattle.monitor.specs.MultisetTest.{testOf, verdictNumber, verdictLetter, Numbered};
+ghost use Rattle.embed.specs.Bytes.{byteOf, statusByte, verdictByte};
+ghost use Rattle.embed.specs.Versions.{version, layout};
+use monitor::Monitor;
 use monitor::Status;
 use monitor::Verdict;
 
 // A status as one byte.
 fn status_byte(status: Status) -> u8
-    ensures { λ r. ⌜ r ≡ statusByte status ⌝ }
+    ensures { λ r. ⌜ r ≡ byteOf (statusNumber status) (letter status) ⌝ }
 {
     match status {
         Status::Closed => b'd',
@@ -26,7 +27,7 @@ fn status_byte(status: Status) -> u8
 
 // A verdict as one byte.
 fn verdict_byte(verdict: Verdict) -> u8
-    ensures { λ r. ⌜ r ≡ verdictByte verdict ⌝ }
+    ensures { λ r. ⌜ r ≡ byteOf (verdictNumber verdict) (verdictLetter verdict) ⌝ }
 {
     match verdict {
         Verdict::Yes => b'y',
@@ -35,47 +36,47 @@ fn verdict_byte(verdict: Verdict) -> u8
     }
 }
 
-// The status of an instance by value, as one byte.
-fn status_of(instance: Instance, workspace: &mut [u32]) -> u8
-    ensures { λ r. ⌜ (r ≡ statusByte (statusOf instance (now (workspace .entry)))) × (now (workspace .exit) ≡ statusWorkspace instance (now (workspace .entry))) ⌝ }
+// The status of a monitor by value, as one byte.
+fn status_of(monitor: Monitor, workspace: &mut [u32]) -> u8
+    ensures { λ r. ⌜ (r ≡ statusByte (statusOf monitor (now (workspace .entry)))) × (now (workspace .exit) ≡ statusOf monitor (now (workspace .entry)) .workspace) ⌝ }
 {
-    status_byte(instance.status(workspace))
+    status_byte(monitor.status(workspace))
 }
 
-// Opens an instance where the caller keeps it; a refusal leaves the blank one there.
+// Opens a monitor where the caller keeps it; a refusal leaves the blank one there.
 #[no_mangle]
 pub extern "C" fn oskhrein_open(
-    instance: &mut Instance,
+    monitor: &mut Monitor,
     users: u8,
     roles: u8,
     words: &[u32],
     rows: &[u16],
 ) -> u8
-    ensures { λ r. ⌜ record { code = r; instance = now (instance .exit) } ≡ opening users roles (now (words .entry)) (now (rows .entry)) ⌝ }
+    ensures { λ r. ⌜ record { code = r; monitor = now (monitor .exit) } ≡ opening (given users roles (now (words .entry)) (now (rows .entry))) ⌝ }
 {
-    let opened = Instance::open(users, roles, words, rows);
-    *instance = opened.instance;
+    let opened = Monitor::open(users, roles, words, rows);
+    *monitor = opened.monitor;
     opened.code
 }
 
-// One event (document 01: the thin call on a lent sheet): alters the instance where the caller keeps it, with the answers of the call by
+// One event (document 01: the thin call on a lent sheet): alters the monitor where the caller keeps it, with the answers of the call by
 // value.
 #[no_mangle]
-pub extern "C" fn oskhrein_event(instance: &mut Instance, word: u32, workspace: &mut [u32]) -> u8
-    ensures { λ r. ⌜ record { code = r; instance = now (instance .exit); workspace = now (workspace .exit) } ≡ outcome (now (instance .entry)) word (now (workspace .entry)) ⌝ }
+pub extern "C" fn oskhrein_event(monitor: &mut Monitor, word: u32, workspace: &mut [u32]) -> u8
+    ensures { λ r. ⌜ record { code = r; monitor = now (monitor .exit); workspace = now (workspace .exit) } ≡ outcome (now (monitor .entry)) word (now (workspace .entry)) ⌝ }
 {
-    let current = *instance;
+    let current = *monitor;
     let answer = current.event(word, workspace);
-    *instance = answer.instance;
+    *monitor = answer.monitor;
     answer.code
 }
 
-// The status of an instance, which stays as it is.
+// The status of a monitor, which stays as it is.
 #[no_mangle]
-pub extern "C" fn oskhrein_status(instance: &Instance, workspace: &mut [u32]) -> u8
-    ensures { λ r. ⌜ (r ≡ statusByte (statusOf (now (instance .entry)) (now (workspace .entry)))) × (now (workspace .exit) ≡ statusWorkspace (now (instance .entry)) (now (workspace .entry))) ⌝ }
+pub extern "C" fn oskhrein_status(monitor: &Monitor, workspace: &mut [u32]) -> u8
+    ensures { λ r. ⌜ (r ≡ statusByte (statusOf (now (monitor .entry)) (now (workspace .entry)))) × (now (workspace .exit) ≡ statusOf (now (monitor .entry)) (now (workspace .entry)) .workspace) ⌝ }
 {
-    let current = *instance;
+    let current = *monitor;
     status_of(current, workspace)
 }
 
@@ -89,7 +90,7 @@ pub extern "C" fn oskhrein_satisfies(
     counts: &[u8; 16],
     workspace: &mut [u32],
 ) -> u8
-    ensures { λ r. ⌜ (r ≡ verdictByte (verdict users roles (now (words .entry)) (now (rows .entry)) (now (counts .entry)) (length (now (workspace .entry))))) × Numbered users roles (now (words .entry)) (now (rows .entry)) (now (counts .entry)) (now (workspace .entry)) (now (workspace .exit)) ⌝ }
+    ensures { λ r. ⌜ (r ≡ verdictByte (testOf (given users roles (now (words .entry)) (now (rows .entry))) (now (counts .entry)) (length (now (workspace .entry))))) × Numbered (given users roles (now (words .entry)) (now (rows .entry))) (now (counts .entry)) (now (workspace .entry)) (now (workspace .exit)) ⌝ }
 {
     verdict_byte(monitor::satisfies(users, roles, words, rows, *counts, workspace))
 }
@@ -100,4 +101,20 @@ pub extern "C" fn oskhrein_normal_form(users: u8, roles: u8, words: &[u32], out:
     ensures { λ r. ⌜ (r ≡ normalCode users roles (now (words .entry)) (length (now (out .entry)))) × (now (out .exit) ≡ normalOut users roles (now (words .entry)) (now (out .entry))) ⌝ }
 {
     normal::normal_form(users, roles, words, out)
+}
+
+// The version of the library.
+#[no_mangle]
+pub extern "C" fn oskhrein_version() -> u32
+    ensures { λ r. ⌜ r ≡ version ⌝ }
+{
+    0x000100
+}
+
+// The number of the layout of what is lent. Whoever stores a monitor keeps it beside the bytes.
+#[no_mangle]
+pub extern "C" fn oskhrein_layout() -> u32
+    ensures { λ r. ⌜ r ≡ layout ⌝ }
+{
+    1
 }

@@ -12,11 +12,13 @@ use borrow.Author.Tests.{ne-eqb}
 use Rattle.soda.specs.Lists.{all}
 use Rattle.soda.proofs.Bools.{lt-so}
 use Rattle.soda.proofs.Splits.{split-append, all-parts}
-use Rattle.workspace.specs.declared.Action.{Action}
+use Rattle.soda.specs.declared.Action.{Action}
+use Rattle.monitor.specs.declared.Configuration.{Configuration}
 use Rattle.monitor.specs.declared.Instance.{Instance}
-use Rattle.monitor.specs.Instances.{isZero, policyOf, takenOf, notedFor, withAction}
+use Rattle.monitor.specs.Configurations.{isZero}
+use Rattle.monitor.specs.Instances.{policyOf, takenOf, notedFor, withAction}
 use Rattle.monitor.specs.MultisetTest.{total, listed}
-use Rattle.monitor.specs.Calls.{adding}
+use Rattle.monitor.specs.Private.{adding}
 use Rattle.monitor.proofs.Loops.{all-replicate}
 use Rattle.monitor.proofs.Fillable.{taken-more}
 
@@ -65,8 +67,8 @@ map-replicate f zero a = refl
 map-replicate f (suc n) a = ap (λ l. f a ∷ l) (map-replicate f n a)
 
 -- the first user's actions, then the others'
-pub adding-listed : (i s : Instance) (u c : ℕ) (l : List ℕ)
-    → adding i (map (notedFor s) (listed u (c ∷ l))) ≡ adding (adding i (replicate c (notedFor s u))) (map (notedFor s) (listed (suc u) l))
-adding-listed i s u c l =
-    ap (adding i) (map-append (notedFor s) (replicate c u) (listed (suc u) l) ∙ ap (λ (m : List Action). m ++ map (notedFor s) (listed (suc u) l)) (map-replicate (notedFor s) c u))
-    ∙ adding-append i (replicate c (notedFor s u)) (map (notedFor s) (listed (suc u) l))
+pub adding-listed : (d : Configuration) (i s : Instance) (u c : ℕ) (l : List ℕ)
+    → adding i (map (notedFor d s) (listed u (c ∷ l))) ≡ adding (adding i (replicate c (notedFor d s u))) (map (notedFor d s) (listed (suc u) l))
+adding-listed d i s u c l =
+    ap (adding i) (map-append (notedFor d s) (replicate c u) (listed (suc u) l) ∙ ap (λ (m : List Action). m ++ map (notedFor d s) (listed (suc u) l)) (map-replicate (notedFor d s) c u))
+    ∙ adding-append i (replicate c (notedFor d s u)) (map (notedFor d s) (listed (suc u) l))

@@ -1,4 +1,4 @@
--- The workspace can be filled for a well-formed instance, with one more action by a declared user too; it then is filled.
+-- The workspace can be filled for well-formed parts, with one more action by a declared user too; it then is filled.
 use mathlib.Core.Path.{_≡_, refl}
 use mathlib.Core.Bool.{Bool, So, _&&_}
 use mathlib.Core.List.{List, [], _∷_, _++_}
@@ -13,16 +13,17 @@ use lib.Seq.{take-suc-set}
 use borrow.Author.Tests.{le-leb, leb-true}
 use Rattle.soda.specs.Lists.{all}
 use Rattle.soda.specs.Terms.{Term, wellFormed}
+use Rattle.soda.specs.declared.Action.{Action}
 use Rattle.soda.proofs.Bools.{never, and-split, and-join, so-lt, lt-so}
 use Rattle.soda.proofs.Splits.{split-append, all-parts}
 use Rattle.policy.specs.Words.{decode}
 use Rattle.policy.specs.Reading.{lengthOk, isTerm, isFormed, unitsOf}
-use Rattle.workspace.specs.declared.Action.{Action}
 use Rattle.workspace.specs.Workspace.{filled, isFillable, fillOf}
+use Rattle.monitor.specs.declared.Configuration.{Configuration}
 use Rattle.monitor.specs.declared.Instance.{Instance}
 use Rattle.monitor.specs.Instances.{policyOf, takenOf, term, withAction, actionOk}
-use Rattle.monitor.specs.Calls.{Fillable}
-use Rattle.monitor.proofs.Formed.{Formed, formed-read}
+use Rattle.monitor.specs.Private.{Fillable}
+use Rattle.monitor.proofs.Formed.{ConfigurationFormed, InstanceFormed, formed-read, users-most}
 
 -- a user that the workspace has a bit for
 abbrev known : Action → Bool
@@ -57,17 +58,17 @@ all-known users units (a ∷ l) m h =
 pub taken-more : (i : Instance) (a : Action) → i .taken < length (i .actions) → takenOf (withAction i a) ≡ takenOf i ++ (a ∷ [])
 taken-more i a h = rw (add-one, take-suc-set (i .actions) (i .taken) a)
 
-module _ (i : Instance) (room : List ℕ) (f : Formed i) (long : 8192 ≤ length room) where
+module _ (c : Configuration) (i : Instance) (room : List ℕ) (k : ConfigurationFormed c) (f : InstanceFormed c i) (long : 8192 ≤ length room) where
   users-known : So (all known (takenOf i))
-  users-known = all-known (i .users) (unitsOf (decode (policyOf i))) (takenOf i) (formed-read i f .users-most) (f .actions-ok)
+  users-known = all-known (c .users) (unitsOf (decode (policyOf i))) (takenOf i) (users-most c k) (f .actions-ok)
 
   pub fillable-formed : Fillable i room
-  fillable-formed = fillable i room (f .words-most) (formed-read i f .long) (formed-read i f .term) (formed-read i f .formed) (f .taken-most) users-known long
+  fillable-formed = fillable i room (f .words-most) (formed-read c i f .long) (formed-read c i f .term) (formed-read c i f .formed) (f .taken-most) users-known long
 
-  pub fillable-more : (a : Action) → i .taken < 12 → i .taken < length (i .actions) → a .user < i .users → Fillable (withAction i a) room
+  pub fillable-more : (a : Action) → i .taken < 12 → i .taken < length (i .actions) → a .user < c .users → Fillable (withAction i a) room
   fillable-more a free within u =
-      fillable (withAction i a) room (f .words-most) (formed-read i f .long) (formed-read i f .term) (formed-read i f .formed) (omega arith)
-      (rw (taken-more i a within) (all-parts known (split-append (takenOf i) (a ∷ [])) users-known (and-join (known a) _ (lt-so (a .user) 16 (omega (arith, formed-read i f .users-most))) refl)))
+      fillable (withAction i a) room (f .words-most) (formed-read c i f .long) (formed-read c i f .term) (formed-read c i f .formed) (omega arith)
+      (rw (taken-more i a within) (all-parts known (split-append (takenOf i) (a ∷ [])) users-known (and-join (known a) _ (lt-so (a .user) 16 (omega (arith, users-most c k))) refl)))
       long
 
 -- what the condition says of the workspace and of the number of actions

@@ -1,7 +1,7 @@
--- What an accepted opening and a well-formed instance say of their parts: none of the refusals applies.
+-- What an accepted opening and a well-formed monitor say of their parts: none of the refusals applies.
 use mathlib.Core.Path.{_≡_, refl}
 use mathlib.Core.Bool.{Bool, So, not, _&&_}
-use mathlib.Core.List.{List, [], _∷_, _++_}
+use mathlib.Core.List.{List}
 use Prim.Native.Nat.{ℕ, _^_, _≤_}
 use native.Mathlib.Omega.{arith}
 use lib.Dec.{leb, ltb, eqb}
@@ -9,34 +9,40 @@ use lib.ListN.{length, drop, length-take}
 use borrow.Author.Tests.{leb-true, le-leb, not-false}
 use Rattle.soda.specs.Lists.{all}
 use Rattle.soda.proofs.Bools.{and-split, and-join, so-eq, eq-so}
-use Rattle.policy.specs.Refusals.{_gives_, Clear}
+use Rattle.policy.specs.Refusals.{code, Clear}
 use Rattle.policy.specs.Words.{decode}
 use Rattle.policy.specs.Reading.{countOk, lengthOk, isTerm, isFormed, refusals, unitsOf}
-use Rattle.monitor.specs.declared.Instance.{Instance}
-use Rattle.monitor.specs.Instances.{rowsOk, openRefusals, openCode, policyOf, rowsOf, takenOf, isZero, isIdle, actionOk, isOpenable, isTakenOk, isTidy, wellFormed}
 use Rattle.policy.proofs.Refusals.{clear, clear-front, clear-behind}
+use Rattle.monitor.specs.declared.Configuration.{Configuration}
+use Rattle.monitor.specs.declared.Instance.{Instance}
+use Rattle.monitor.specs.declared.Monitor.{Monitor}
+use Rattle.monitor.specs.Configurations.{assignment, isZero, rowsOk, configurationOk}
+use Rattle.monitor.specs.Instances.{policyOf, takenOf, isIdle, actionOk, isReadable, isTakenOk, isTidy, instanceOk}
+use Rattle.monitor.specs.Monitors.{Opening, openRefusals, openCode, wellFormed}
+use Rattle.monitor.proofs.Opening.{policy-refusals, rows-refusal}
 
--- a policy that is read
+-- ── a policy that is read ──
 pub record Readable (users roles : ℕ) (words : List ℕ) : Type 0 where
-  pub users-most : users ≤ 16
-  pub roles-most : roles ≤ 16
+  pub counts : So (countOk users && countOk roles)
   pub long : So (lengthOk (length words))
   pub term : So (isTerm (decode words))
   pub formed : So (isFormed (decode words))
 
-most : (n : ℕ) → So (countOk n) → n ≤ 16
-most n h = leb-true n 16 (and-split (leb 1 n) (leb n 16) h .1)
-
 pub readable : (users roles : ℕ) (words : List ℕ) → Clear (refusals users roles words) → Readable users roles words
-readable users roles words k =
-    let n = and-split (countOk users) (countOk roles) (not-false _ (k .0)) in
-    record {
-      users-most = most users (n .0);
-      roles-most = most roles (n .1);
-      long = not-false _ (k .1 .0);
-      term = not-false _ (k .1 .1 .1 .0);
-      formed = not-false _ (k .1 .1 .1 .1 .0);
-    }
+readable users roles words k = record {
+  counts = not-false _ (k .0);
+  long = not-false _ (k .1 .0);
+  term = not-false _ (k .1 .1 .1 .0);
+  formed = not-false _ (k .1 .1 .1 .1 .0);
+}
+
+pub count-most : (n : ℕ) → So (countOk n) → n ≤ 16
+count-most n h = leb-true n 16 (and-split (leb 1 n) (leb n 16) h .1)
+
+pub counts-most : (users roles : ℕ) → So (countOk users && countOk roles) → (users ≤ 16) × (roles ≤ 16)
+counts-most users roles h =
+    let n = and-split (countOk users) (countOk roles) h in
+    (count-most users (n .0), count-most roles (n .1))
 
 pub words-few : {users roles : ℕ} (words : List ℕ) → Readable users roles words → length words ≤ 31
 words-few words r = leb-true (length words) 31 (and-split (leb 1 (length words)) (leb (length words) 31) (r .long) .1)
@@ -45,75 +51,126 @@ words-few words r = leb-true (length words) 31 (and-split (leb 1 (length words))
 pub one-each : (users roles : ℕ) (rows : List ℕ) → So (rowsOk users roles rows) → length rows ≡ users
 one-each users roles rows h = so-eq (length rows) users (and-split (eqb (length rows) users) (all (λ r. ltb r (2 ^ roles)) rows) h .0)
 
--- an opening that is accepted
-module _ (users roles : ℕ) (words rows : List ℕ) (e : openCode users roles words rows ≡ 0) where
-  all-clear : Clear (refusals users roles words ++ ((not (rowsOk users roles rows) gives 6) ∷ []))
+-- ── an opening that is accepted ──
+module _ (o : Opening) (e : openCode o ≡ 0) where
+  all-clear : Clear (openRefusals o)
   unfolding openRefusals
-  all-clear = clear (openRefusals users roles words rows) refl e
+  all-clear = clear (openRefusals o) refl e
 
-  pub opens-clear : Clear (refusals users roles words)
-  opens-clear = clear-front (refusals users roles words) ((not (rowsOk users roles rows) gives 6) ∷ []) all-clear
+  pub opens-clear : Clear (policy-refusals o)
+  unfolding openRefusals
+  opens-clear = clear-front (policy-refusals o) (rows-refusal o) all-clear
 
-  pub opens-read : Readable users roles words
-  opens-read = readable users roles words opens-clear
+  pub opens-read : Readable (o .users) (o .roles) (o .words)
+  opens-read = readable (o .users) (o .roles) (o .words) opens-clear
 
-  pub opens-rows : So (rowsOk users roles rows)
-  opens-rows = not-false (rowsOk users roles rows) (clear-behind (refusals users roles words) ((not (rowsOk users roles rows) gives 6) ∷ []) all-clear .0)
+  pub opens-rows : So (rowsOk (o .users) (o .roles) (o .rows))
+  unfolding openRefusals
+  opens-rows = not-false (rowsOk (o .users) (o .roles) (o .rows)) (clear-behind (policy-refusals o) (rows-refusal o) all-clear .0)
 
--- ── a well-formed instance ──
-pub record Formed (i : Instance) : Type 0 where
+-- ── a well-formed configuration ──
+pub record ConfigurationFormed (c : Configuration) : Type 0 where
+  pub counts : So (countOk (c .users) && countOk (c .roles))
+  pub rows-ok : So (rowsOk (c .users) (c .roles) (assignment c))
+  pub rows-zero : So (all isZero (drop (c .users) (c .«user_roles»)))
+
+module _ (c : Configuration) where
+  abbrev counts-test : Bool
+  counts-test = countOk (c .users) && countOk (c .roles)
+
+  abbrev rows-test : Bool
+  rows-test = rowsOk (c .users) (c .roles) (assignment c)
+
+  abbrev zeros-test : Bool
+  zeros-test = all isZero (drop (c .users) (c .«user_roles»))
+
+  pub configuration-formed : So (configurationOk c) → ConfigurationFormed c
+  unfolding configurationOk
+  configuration-formed h =
+      let (n, r) = and-split counts-test (rows-test && zeros-test) h in
+      let (o, z) = and-split rows-test zeros-test r in
+      record { counts = n; rows-ok = o; rows-zero = z }
+
+  pub is-configuration-formed : ConfigurationFormed c → So (configurationOk c)
+  unfolding configurationOk
+  is-configuration-formed f = and-join counts-test (rows-test && zeros-test) (f .counts) (and-join rows-test zeros-test (f .rows-ok) (f .rows-zero))
+
+  module _ (f : ConfigurationFormed c) where
+    pub users-most : c .users ≤ 16
+    users-most = counts-most (c .users) (c .roles) (f .counts) .0
+
+    pub roles-most : c .roles ≤ 16
+    roles-most = counts-most (c .users) (c .roles) (f .counts) .1
+
+    -- there is a row for each user
+    pub users-within : c .users ≤ length (c .«user_roles»)
+    users-within = omega (arith, one-each (c .users) (c .roles) (assignment c) (f .rows-ok), length-take (c .users) (c .«user_roles»))
+
+-- ── a well-formed instance over it ──
+pub record InstanceFormed (c : Configuration) (i : Instance) : Type 0 where
   pub words-most : i .words ≤ 31
-  pub opened : openCode (i .users) (i .roles) (policyOf i) (rowsOf i) ≡ 0
+  pub read : code (refusals (c .users) (c .roles) (policyOf i)) ≡ 0
   pub taken-most : i .taken ≤ 12
-  pub actions-ok : So (all (actionOk (i .users) (unitsOf (decode (policyOf i)))) (takenOf i))
+  pub actions-ok : So (all (actionOk (c .users) (unitsOf (decode (policyOf i)))) (takenOf i))
   pub words-zero : So (all isZero (drop (i .words) (i .policy)))
-  pub rows-zero : So (all isZero (drop (i .users) (i .«user_roles»)))
   pub places-idle : So (all isIdle (drop (i .taken) (i .actions)))
 
-module _ (i : Instance) where
-  -- the tests, as the definition has them
-  abbrev opened-test : Bool
-  opened-test = eqb (openCode (i .users) (i .roles) (policyOf i) (rowsOf i)) 0
+module _ (c : Configuration) (i : Instance) where
+  abbrev read-test : Bool
+  read-test = eqb (code (refusals (c .users) (c .roles) (policyOf i))) 0
 
   abbrev actions-test : Bool
-  actions-test = all (actionOk (i .users) (unitsOf (decode (policyOf i)))) (takenOf i)
+  actions-test = all (actionOk (c .users) (unitsOf (decode (policyOf i)))) (takenOf i)
 
-  abbrev rest-test : Bool
-  rest-test = all isZero (drop (i .users) (i .«user_roles»)) && all isIdle (drop (i .taken) (i .actions))
+  abbrev words-test : Bool
+  words-test = all isZero (drop (i .words) (i .policy))
 
-  pub formed : So (wellFormed i) → Formed i
-  unfolding wellFormed
-  formed h =
-      let (o, r) = and-split (isOpenable i) (isTakenOk i && isTidy i) h in
-      let (w, e) = and-split (leb (i .words) 31) opened-test o in
-      let (t, d) = and-split (isTakenOk i) (isTidy i) r in
+  abbrev places-test : Bool
+  places-test = all isIdle (drop (i .taken) (i .actions))
+
+  pub instance-formed : So (instanceOk c i) → InstanceFormed c i
+  unfolding instanceOk
+  instance-formed h =
+      let (p, r) = and-split (isReadable c i) (isTakenOk c i && isTidy i) h in
+      let (w, e) = and-split (leb (i .words) 31) read-test p in
+      let (t, d) = and-split (isTakenOk c i) (isTidy i) r in
       let (n, a) = and-split (leb (i .taken) 12) actions-test t in
-      let (x, yz) = and-split (all isZero (drop (i .words) (i .policy))) rest-test d in
-      let (y, z) = and-split (all isZero (drop (i .users) (i .«user_roles»))) (all isIdle (drop (i .taken) (i .actions))) yz in
+      let (x, z) = and-split words-test places-test d in
       record {
         words-most = leb-true (i .words) 31 w;
-        opened = so-eq (openCode (i .users) (i .roles) (policyOf i) (rowsOf i)) 0 e;
+        read = so-eq (code (refusals (c .users) (c .roles) (policyOf i))) 0 e;
         taken-most = leb-true (i .taken) 12 n;
         actions-ok = a;
         words-zero = x;
-        rows-zero = y;
         places-idle = z;
       }
 
-  pub is-formed : Formed i → So (wellFormed i)
-  unfolding wellFormed
-  is-formed f =
-      and-join (isOpenable i) (isTakenOk i && isTidy i)
-      (and-join (leb (i .words) 31) opened-test (le-leb (i .words) 31 (f .words-most)) (eq-so (openCode (i .users) (i .roles) (policyOf i) (rowsOf i)) 0 (f .opened)))
-      (and-join (isTakenOk i) (isTidy i)
+  pub is-instance-formed : InstanceFormed c i → So (instanceOk c i)
+  unfolding instanceOk
+  is-instance-formed f =
+      and-join (isReadable c i) (isTakenOk c i && isTidy i)
+      (and-join (leb (i .words) 31) read-test (le-leb (i .words) 31 (f .words-most)) (eq-so (code (refusals (c .users) (c .roles) (policyOf i))) 0 (f .read)))
+      (and-join (isTakenOk c i) (isTidy i)
       (and-join (leb (i .taken) 12) actions-test (le-leb (i .taken) 12 (f .taken-most)) (f .actions-ok))
-      (and-join (all isZero (drop (i .words) (i .policy))) rest-test (f .words-zero)
-      (and-join (all isZero (drop (i .users) (i .«user_roles»))) (all isIdle (drop (i .taken) (i .actions))) (f .rows-zero) (f .places-idle))))
+      (and-join words-test places-test (f .words-zero) (f .places-idle)))
 
-module _ (i : Instance) (f : Formed i) where
-  pub formed-read : Readable (i .users) (i .roles) (policyOf i)
-  formed-read = opens-read (i .users) (i .roles) (policyOf i) (rowsOf i) (f .opened)
+  pub formed-clear : InstanceFormed c i → Clear (refusals (c .users) (c .roles) (policyOf i))
+  formed-clear f = clear (refusals (c .users) (c .roles) (policyOf i)) refl (f .read)
 
-  -- there is a row for each user
-  pub users-within : i .users ≤ length (i .«user_roles»)
-  users-within = omega (arith, one-each (i .users) (i .roles) (rowsOf i) (opens-rows (i .users) (i .roles) (policyOf i) (rowsOf i) (f .opened)), length-take (i .users) (i .«user_roles»))
+  pub formed-read : InstanceFormed c i → Readable (c .users) (c .roles) (policyOf i)
+  formed-read f = readable (c .users) (c .roles) (policyOf i) (formed-clear f)
+
+-- ── a well-formed monitor ──
+pub record Formed (m : Monitor) : Type 0 where
+  pub in-configuration : ConfigurationFormed (m .configuration)
+  pub in-instance : InstanceFormed (m .configuration) (m .instance)
+
+module _ (m : Monitor) where
+  pub formed : So (wellFormed m) → Formed m
+  formed h =
+      let (p, q) = and-split (configurationOk (m .configuration)) (instanceOk (m .configuration) (m .instance)) h in
+      record { in-configuration = configuration-formed (m .configuration) p; in-instance = instance-formed (m .configuration) (m .instance) q }
+
+  pub is-formed : Formed m → So (wellFormed m)
+  is-formed f = and-join (configurationOk (m .configuration)) (instanceOk (m .configuration) (m .instance))
+      (is-configuration-formed (m .configuration) (f .in-configuration)) (is-instance-formed (m .configuration) (m .instance) (f .in-instance))

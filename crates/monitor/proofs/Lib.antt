@@ -1,17 +1,17 @@
 -- Vocabulary.
-pub mod Tests
+pub mod Results
 pub mod Digits
 pub mod Loops
--- Refusals, well-formed instances and events read.
+-- Refusals, well-formed monitors and events read.
 pub mod Opening
 pub mod Formed
 pub mod Reading
 -- What an event alters.
 pub mod Effects
 pub mod Order
-pub mod Kept
+pub mod Preserved
 -- The workspace: what is read from it, and when it is filled.
 pub mod Verdicts
 pub mod Fillable
 pub mod Adding
-pub mod Testing
+pub mod Counted

@@ -8,18 +8,25 @@ use lib.Dec.{eqb}
 use lib.ListN.{length}
 use borrow.Author.Tests.{eqb-true, eqb-false, ne-eqb}
 use Rattle.soda.proofs.Bools.{by-test}
-use Rattle.policy.specs.Refusals.{_gives_, code, Clear}
+use Rattle.policy.specs.Codes.{ROWS}
+use Rattle.policy.specs.Refusals.{_gives_, code, Refusals, Clear}
 use Rattle.policy.specs.Words.{decode}
 use Rattle.policy.specs.Reading.{refusals, unitsOf, readPolicy}
 use Rattle.policy.specs.declared.PolicyRead.{PolicyRead}
 use Rattle.policy.specs.declared.PolicyRead.the-variants.{Accepted, Refused}
-use Rattle.monitor.specs.Instances.{blank, rowsOk, openRefusals, openCode, fresh, opening}
 use Rattle.policy.proofs.Refusals.{clear, code-front, code-behind}
+use Rattle.monitor.specs.Configurations.{rowsOk}
+use Rattle.monitor.specs.Monitors.{Opening, blank, openRefusals, openCode, fresh, opened, opening}
+
+-- what an accepted read says
+pub record IsRead (users roles : ℕ) (words : List ℕ) (n units : ℕ) : Type 0 where
+  pub clear-read : Clear (refusals users roles words)
+  pub word-count : n ≡ length words
+  pub unit-words : units ≡ unitsOf (decode words)
 
 module _ (users roles : ℕ) (words : List ℕ) where
-  -- what each answer of the read says
   abbrev Says : PolicyRead → Type 0
-  Says (Accepted n m) = Clear (refusals users roles words) × (m ≡ unitsOf (decode words))
+  Says (Accepted n m) = IsRead users roles words n m
   Says (Refused k) = (code (refusals users roles words) ≡ k) × (k ≢ 0)
 
   says : Says (readPolicy users roles words)
@@ -28,34 +35,47 @@ module _ (users roles : ℕ) (words : List ℕ) where
     where
       go : (b : Bool) → eqb (code (refusals users roles words)) 0 ≡ b
           → Says (cond b (Accepted (length words) (unitsOf (decode words))) (Refused (code (refusals users roles words))))
-      go true z = (clear (refusals users roles words) refl (eqb-true (code (refusals users roles words)) 0 z), refl)
+      go true z = record {
+        clear-read = clear (refusals users roles words) refl (eqb-true (code (refusals users roles words)) 0 z);
+        word-count = refl;
+        unit-words = refl;
+      }
       go false z = (refl, eqb-false (code (refusals users roles words)) 0 z)
 
-  pub read-accepted : (n m : ℕ) → readPolicy users roles words ≡ Accepted n m → Clear (refusals users roles words) × (m ≡ unitsOf (decode words))
+  pub read-accepted : (n m : ℕ) → readPolicy users roles words ≡ Accepted n m → IsRead users roles words n m
   read-accepted n m e = subst Says e says
 
   pub read-refused : (k : ℕ) → readPolicy users roles words ≡ Refused k → (code (refusals users roles words) ≡ k) × (k ≢ 0)
   read-refused k e = subst Says e says
 
-  module _ (rows : List ℕ) where
-    -- the number of an opening
-    pub code-refused : (k : ℕ) → readPolicy users roles words ≡ Refused k → openCode users roles words rows ≡ k
-    unfolding openRefusals
-    code-refused k e =
-        let r = read-refused k e in
-        code-front (refusals users roles words) ((not (rowsOk users roles rows) gives 6) ∷ []) (λ z. r .1 (sym (r .0) ∙ z)) ∙ r .0
+module _ (o : Opening) where
+  -- the refusals of the policy, and of the rows behind them
+  abbrev pub policy-refusals : Refusals
+  policy-refusals = refusals (o .users) (o .roles) (o .words)
 
-    pub code-accepted : Clear (refusals users roles words) → openCode users roles words rows ≡ cond (rowsOk users roles rows) 0 6
-    unfolding openRefusals
-    code-accepted h =
-        code-behind (refusals users roles words) ((not (rowsOk users roles rows) gives 6) ∷ []) h
-        ∙ by-test (rowsOk users roles rows) (λ p. rw p) (λ p. rw p)
+  abbrev pub rows-refusal : Refusals
+  rows-refusal = (not (rowsOk (o .users) (o .roles) (o .rows)) gives ROWS) ∷ []
 
-    -- what an opening gives, by its number
-    pub opening-refused : (k : ℕ) → k ≢ 0 → openCode users roles words rows ≡ k → record { code = k; instance = blank } ≡ opening users roles words rows
-    unfolding opening
-    opening-refused k ne e = rw (e, ne-eqb k 0 ne)
+  -- the number of an opening
+  pub code-refused : (k : ℕ) → readPolicy (o .users) (o .roles) (o .words) ≡ Refused k → openCode o ≡ k
+  unfolding openRefusals
+  code-refused k e =
+      let r = read-refused (o .users) (o .roles) (o .words) k e in
+      code-front policy-refusals rows-refusal (λ z. r .1 (sym (r .0) ∙ z)) ∙ r .0
 
-    pub opening-accepted : openCode users roles words rows ≡ 0 → record { code = 0; instance = fresh users roles words rows } ≡ opening users roles words rows
-    unfolding opening
-    opening-accepted e = rw e
+  pub code-accepted : Clear policy-refusals → openCode o ≡ cond (rowsOk (o .users) (o .roles) (o .rows)) 0 ROWS
+  unfolding openRefusals
+  code-accepted h = code-behind policy-refusals rows-refusal h ∙ by-test (rowsOk (o .users) (o .roles) (o .rows)) (λ p. rw p) (λ p. rw p)
+
+  -- what an opening gives, by its number
+  pub opening-refused : (k : ℕ) → k ≢ 0 → openCode o ≡ k → record { code = k; monitor = blank } ≡ opening o
+  unfolding opened
+  opening-refused k ne e = rw (e, ne-eqb k 0 ne)
+
+  pub opened-fresh : openCode o ≡ 0 → opened o ≡ fresh o
+  unfolding opened
+  opened-fresh e = rw e
+
+  pub opening-accepted : openCode o ≡ 0 → record { code = 0; monitor = fresh o } ≡ opening o
+  unfolding opened
+  opening-accepted e = rw e

@@ -1,28 +1,153 @@
--- An event's checks in order: one of 12, 15, 10 and 7 decides, or the event's own refusals do.
-use mathlib.Core.Path.{_≡_}
-use mathlib.Core.Bool.{true, false}
-use mathlib.Core.List.{List}
-use Prim.Native.Nat.{ℕ}
+-- An event's checks in order: 12 or 15 decides, then 10 or 7, then the event's own refusals.
+use mathlib.Core.Path.{_≡_, refl, subst, ap, _∙_}
+use mathlib.Core.Logic.{_≢_}
+use mathlib.Core.Bool.{Bool, true, false, So, not, _&&_, cond}
+use mathlib.Core.List.{List, [], _∷_, _++_}
+use Prim.Native.Nat.{ℕ, _≤_}
 use lib.Dec.{ltb, eqb}
 use lib.ListN.{length}
-use Rattle.policy.specs.Refusals.{code}
+use borrow.Author.Tests.{ltb-false, le-ltb, ne-eqb, not-true, not-false}
+use Rattle.soda.specs.Lists.{all}
+use Rattle.soda.proofs.Bools.{never, and-split}
+use Rattle.policy.specs.Codes.{NOT-POSSIBLE, NOT-SATISFIED}
+use Rattle.policy.specs.Refusals.{code, Refusals, numbered, Clear}
+use Rattle.policy.proofs.Refusals.{clear-code, code-front, code-behind}
+use Rattle.monitor.specs.declared.Configuration.{Configuration}
 use Rattle.monitor.specs.declared.Instance.{Instance}
+use Rattle.monitor.specs.declared.Monitor.{Monitor}
 use Rattle.monitor.specs.declared.Event.{Event}
-use Rattle.monitor.specs.Instances.{wellFormed}
-use Rattle.monitor.specs.Events.{readEvent, isMalformed, eventRefusals, outcome}
-use Rattle.monitor.specs.Calls.{ownOutcome}
-use Rattle.monitor.proofs.Effects.{workspace-kept}
+use Rattle.monitor.specs.declared.Event.the-variants.{Acts, Grants, Revokes, Closes, Malformed}
+use Rattle.monitor.specs.Instances.{isClosed}
+use Rattle.monitor.specs.Monitors.{wellFormed, admission}
+use Rattle.monitor.specs.Events.{eventIn, isMalformed, entry, ownRefusals, configured, advanced, applied, workspaceAfter, eventRefusals, Outcome, outcome}
+use Rattle.monitor.specs.Private.{InstanceOutcome, ownOutcome, monitorOutcome}
 
-module _ (i : Instance) (w : ℕ) (room : List ℕ) where
-  -- a refusal that leaves everything
-  pub refused-with : (k : ℕ) → eqb k 0 ≡ false → eqb k 9 ≡ false → eqb k 11 ≡ false
-      → code (eventRefusals i (readEvent (i .users) (i .roles) w) (length room)) ≡ k
-      → record { code = k; instance = i; workspace = room } ≡ outcome i w room
+-- ── refusals in front of others ──
+-- where two lists give 0, nothing in front applies, and the list behind gives 0
+clear-both : (l m : Refusals) → So (numbered l) → code (l ++ m) ≡ 0 → Clear l × (code m ≡ 0)
+clear-both [] m z e = (tt, e)
+clear-both ((true, n) ∷ l) m z e = never (subst (λ (k : ℕ). So (not (eqb k 0))) e (and-split (not (eqb n 0)) (numbered l) z .0))
+clear-both ((false, n) ∷ l) m z e =
+    let r = clear-both l m (and-split (not (eqb n 0)) (numbered l) z .1) e in
+    ((refl, r .0), r .1)
+
+-- a number that is given is one of the list's
+code-among : (f : ℕ → Bool) (l : Refusals) → So (all (λ r. f (r .1)) l) → code l ≢ 0 → So (f (code l))
+code-among f [] z ne = absurd (ne refl)
+code-among f ((true, n) ∷ l) z ne = and-split (f n) (all (λ r. f (r .1)) l) z .0
+code-among f ((false, n) ∷ l) z ne = code-among f l (and-split (f n) (all (λ r. f (r .1)) l) z .1) ne
+
+-- ── numbers that leave the workspace ──
+abbrev leaves : ℕ → Bool
+leaves k = not (eqb k NOT-POSSIBLE) && not (eqb k NOT-SATISFIED)
+
+pub workspace-kept : (c : Configuration) (i : Instance) (e : Event) (before : List ℕ) (k : ℕ) → eqb k 0 ≡ false
+    → eqb k NOT-POSSIBLE ≡ false → eqb k NOT-SATISFIED ≡ false → workspaceAfter c i e k before ≡ before
+workspace-kept c i (Acts u n) before k z p q = rw (z, p)
+workspace-kept c i (Grants u r) before k z p q = refl
+workspace-kept c i (Revokes u r) before k z p q = refl
+workspace-kept c i Closes before k z p q = rw (z, q)
+workspace-kept c i Malformed before k z p q = refl
+
+-- ── a monitor that is admitted, an event that enters ──
+pub admits : (m : Monitor) (n : ℕ) → code (admission m n) ≡ 0 → (8192 ≤ n) × So (wellFormed m)
+unfolding admission
+admits m n e =
+    let k = clear-both (admission m n) [] refl e .0 in
+    (ltb-false n 8192 (k .0), not-false (wellFormed m) (k .1 .0))
+
+pub is-admitted : (m : Monitor) (n : ℕ) → 8192 ≤ n → So (wellFormed m) → code (admission m n) ≡ 0
+unfolding admission
+is-admitted m n long w = rw (le-ltb n 8192 long, w)
+
+pub enters : (i : Instance) (e : Event) → code (entry i e) ≡ 0 → (isClosed i ≡ false) × (isMalformed e ≡ false)
+enters i e z = let k = clear-both (entry i e) [] refl z .0 in (k .0, k .1 .0)
+
+-- what is known of an event to which none of 12, 15, 10 and 7 applies
+pub record Passed (m : Monitor) (e : Event) (n : ℕ) : Type 0 where
+  pub long : 8192 ≤ n
+  pub is-well : So (wellFormed m)
+  pub is-open : isClosed (m .instance) ≡ false
+  pub in-layout : isMalformed e ≡ false
+  pub own : code (ownRefusals (m .configuration) (m .instance) e) ≡ 0
+
+module _ (m : Monitor) (e : Event) (n : ℕ) where
+  abbrev own-list : Refusals
+  own-list = ownRefusals (m .configuration) (m .instance) e
+
+  pub passed : code (eventRefusals m e n) ≡ 0 → Passed m e n
+  unfolding eventRefusals admission
+  passed z =
+      let k = clear-both (admission m n) (entry (m .instance) e ++ own-list) refl z in
+      let a = admits m n (clear-code (admission m n) (k .0)) in
+      let j = clear-both (entry (m .instance) e) own-list refl (k .1) in
+      let b = enters (m .instance) e (clear-code (entry (m .instance) e) (j .0)) in
+      record { long = a .0; is-well = a .1; is-open = b .0; in-layout = b .1; own = j .1 }
+
+  -- behind them the event's own refusals decide
+  pub goes-on : 8192 ≤ n → So (wellFormed m) → isClosed (m .instance) ≡ false → isMalformed e ≡ false → code (eventRefusals m e n) ≡ code own-list
+  unfolding eventRefusals admission
+  goes-on long w o l = rw (le-ltb n 8192 long, w, o, l)
+
+-- ── what the checks give ──
+module _ (m : Monitor) (w : ℕ) (before : List ℕ) where
+  abbrev e : Event
+  e = eventIn m w
+
+  abbrev n : ℕ
+  n = length before
+
+  -- a refusal by a number that leaves everything
+  refused-with : (k : ℕ) → k ≢ 0 → So (leaves k) → code (eventRefusals m e n) ≡ k → record { code = k; monitor = m; workspace = before } ≡ outcome m w before
   unfolding outcome
-  refused-with k a b c e = rw (e, a, workspace-kept i (readEvent (i .users) (i .roles) w) room k a b c)
+  refused-with k ne l z =
+      let h = and-split (not (eqb k NOT-POSSIBLE)) (not (eqb k NOT-SATISFIED)) l in
+      rw (
+        z,
+        ne-eqb k 0 ne,
+        workspace-kept (m .configuration) (m .instance) e before k (ne-eqb k 0 ne)
+            (not-true (eqb k NOT-POSSIBLE) (h .0)) (not-true (eqb k NOT-SATISFIED) (h .1)),
+      )
 
-  -- none of them applies
-  pub goes-on : ltb (length room) 8192 ≡ false → wellFormed i ≡ true → i .closed ≡ false
-      → (e : Event) → readEvent (i .users) (i .roles) w ≡ e → isMalformed e ≡ false → ownOutcome i e room ≡ outcome i w room
-  unfolding outcome eventRefusals
-  goes-on a b c e r m = rw (r, a, b, c, m)
+  pub not-admitted : code (admission m n) ≢ 0 → record { code = code (admission m n); monitor = m; workspace = before } ≡ outcome m w before
+  unfolding eventRefusals admission
+  not-admitted ne =
+      refused-with (code (admission m n)) ne (code-among leaves (admission m n) refl ne)
+      (code-front (admission m n) (entry (m .instance) e ++ own-list m e n) ne)
+
+  module _ (clear-admission : code (admission m n) ≡ 0) where
+    admission-clear : Clear (admission m n)
+    unfolding admission
+    admission-clear = clear-both (admission m n) [] refl clear-admission .0
+
+    pub not-entered : code (entry (m .instance) e) ≢ 0 → record { code = code (entry (m .instance) e); monitor = m; workspace = before } ≡ outcome m w before
+    unfolding eventRefusals
+    not-entered ne =
+        refused-with (code (entry (m .instance) e)) ne (code-among leaves (entry (m .instance) e) refl ne)
+        (code-behind (admission m n) (entry (m .instance) e ++ own-list m e n) admission-clear ∙ code-front (entry (m .instance) e) (own-list m e n) ne)
+
+    pub performed : code (entry (m .instance) e) ≡ 0 → monitorOutcome m e before ≡ outcome m w before
+    unfolding outcome
+    performed z =
+        let a = admits m n clear-admission in
+        let b = enters (m .instance) e z in
+        rw (goes-on m e n (a .0) (a .1) (b .0) (b .1))
+
+-- ── an instance's outcome as the monitor's, where the configuration stays ──
+module _ (m : Monitor) (e : Event) (before : List ℕ) (stays : configured (m .configuration) e ≡ m .configuration) where
+  abbrev over : Instance → Monitor
+  over i = record { configuration = m .configuration; instance = i }
+
+  abbrev answered : ℕ → Monitor → List ℕ → Outcome
+  answered k l after = record { code = k; monitor = l; workspace = after }
+
+  moved : (b : Bool) → over (cond b (advanced (m .configuration) (m .instance) e) (m .instance)) ≡ cond b (applied m e) m
+  moved true = rw stays
+  moved false = refl
+
+  pub lifted : (r : InstanceOutcome) → r ≡ ownOutcome (m .configuration) (m .instance) e before
+      → record { code = r .code; monitor = record { configuration = m .configuration; instance = r .instance }; workspace = r .workspace } ≡ monitorOutcome m e before
+  lifted r z =
+      let k = code (ownRefusals (m .configuration) (m .instance) e) in
+      ap (λ (x : InstanceOutcome). answered (x .code) (over (x .instance)) (x .workspace)) z
+      ∙ ap (λ (l : Monitor). answered k l (workspaceAfter (m .configuration) (m .instance) e k before)) (moved (eqb k 0))

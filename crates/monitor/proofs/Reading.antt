@@ -1,15 +1,18 @@
 -- An event that was read names declared users and roles only.
-use mathlib.Core.Path.{refl}
-use mathlib.Core.Bool.{Bool, true, false, So, _&&_, cond}
+use mathlib.Core.Path.{_≡_, refl}
+use mathlib.Core.Bool.{Bool, true, false, So, _&&_, cond, true≢false}
 use Prim.Native.Nat.{ℕ, _/_, _%_, _^_, _<_}
 use lib.Dec.{ltb, eqb}
 use Rattle.soda.proofs.Bools.{and-split, so-lt}
+use Rattle.policy.specs.Kinds.{ACTION, GRANT, REVOKE, CLOSE}
+use Rattle.monitor.specs.declared.Configuration.{Configuration}
 use Rattle.monitor.specs.declared.Event.{Event}
 use Rattle.monitor.specs.declared.Event.the-variants.{Acts, Grants, Revokes, Closes, Malformed}
-use Rattle.monitor.specs.Events.{eventOf, readEvent}
+use Rattle.monitor.specs.Events.{eventOf, readEvent, isMalformed}
+use Rattle.monitor.specs.Private.{Entered}
 
 abbrev pub Declared : ℕ → ℕ → Event → Type 0
-Declared users roles (Acts u) = u < users
+Declared users roles (Acts u a) = u < users
 Declared users roles (Grants u r) = (u < users) × (r < roles)
 Declared users roles (Revokes u r) = (u < users) × (r < roles)
 Declared users roles Closes = Unit
@@ -32,7 +35,15 @@ declared users roles w = go (w / 2 ^ 24) (w / 2 ^ 8 % 2 ^ 8) (w % 2 ^ 8)
     go : (kind u r : ℕ) → P (cond (eqb (w / 2 ^ 16 % 2 ^ 8) 0) (eventOf users roles kind u r) Malformed)
     go kind u r =
         either-way P (eqb (w / 2 ^ 16 % 2 ^ 8) 0) (λ z.
-        either-way P (eqb kind 1) (λ e. either-way P (ltb u users) (so-lt u users) tt)
-        (either-way P (eqb kind 2) (λ e. either-way P (ltb u users && ltb r roles) (two u r) tt)
-        (either-way P (eqb kind 3) (λ e. either-way P (ltb u users && ltb r roles) (two u r) tt)
-        (either-way P (eqb kind 4) (λ e. either-way P (eqb u 0 && eqb r 0) (λ h. tt) tt) tt)))) tt
+        either-way P (eqb kind ACTION) (λ e. either-way P (ltb u users) (so-lt u users) tt)
+        (either-way P (eqb kind GRANT) (λ e. either-way P (ltb u users && ltb r roles) (two u r) tt)
+        (either-way P (eqb kind REVOKE) (λ e. either-way P (ltb u users && ltb r roles) (two u r) tt)
+        (either-way P (eqb kind CLOSE) (λ e. either-way P (eqb u 0 && eqb r 0) (λ h. tt) tt) tt)))) tt
+
+-- and 7 does not apply to it
+pub entered : (c : Configuration) (e : Event) → Declared (c .users) (c .roles) e → isMalformed e ≡ false → Entered c e
+entered c (Acts u a) d m = d
+entered c (Grants u r) d m = d
+entered c (Revokes u r) d m = d
+entered c Closes d m = tt
+entered c Malformed d m = true≢false m

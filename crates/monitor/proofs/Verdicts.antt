@@ -13,12 +13,11 @@ use lib.Pow.{pow-pos, pow-mono}
 use lib.Seq.{getD-append-add}
 use Rattle.soda.specs.Bits.{bit}
 use Rattle.soda.specs.Terms.{Term, size}
-use Rattle.soda.specs.Tables.{bitTable}
+use Rattle.soda.specs.Tables.{bitTable, satisfied, possible}
 use Rattle.soda.proofs.Bits.{bit-number}
 use Rattle.soda.proofs.Terms.{size-pos, stands-whole, stands-here}
-use Rattle.workspace.specs.declared.Action.{Action}
+use Rattle.soda.specs.declared.Action.{Action}
 use Rattle.workspace.specs.Workspace.{range, select, judged, rowOf, column, tableOf, filled}
-use Rattle.monitor.specs.Events.{satisfies, isPossible}
 
 range-length : (i n : ℕ) → length (range i n) ≡ n
 range-length i zero = refl
@@ -76,7 +75,7 @@ module _ (φ : Term) (l : List Action) (room : List ℕ) (few : length l ≤ 12)
   last-low : 2 ^ length l - 1 < 4096
   last-low = omega (arith, pow-mono few, pow-pos (length l))
 
-  pub satisfied-read : bit 0 (getD (filled φ l room) (2 ^ length l - 1) 0) ≡ satisfies φ l
+  pub satisfied-read : bit 0 (getD (filled φ l room) (2 ^ length l - 1) 0) ≡ satisfied φ 0 l
   unfolding filled tableOf
   satisfied-read =
       let one = column false φ l in
@@ -85,7 +84,7 @@ module _ (φ : Term) (l : List Action) (room : List ℕ) (few : length l ≤ 12)
       ∙ List·getD-append one two 0 (2 ^ length l - 1) (omega (arith, last-low, column-length false φ l few)))
       ∙ column-last false φ l
 
-  pub possible-read : bit 0 (getD (filled φ l room) (4096 + (2 ^ length l - 1)) 0) ≡ isPossible φ l
+  pub possible-read : bit 0 (getD (filled φ l room) (4096 + (2 ^ length l - 1)) 0) ≡ possible φ 0 l
   unfolding filled tableOf
   possible-read =
       let one = column false φ l in

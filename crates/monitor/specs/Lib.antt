@@ -1,8 +1,11 @@
+pub mod Configurations
 pub mod Instances
+pub mod Monitors
 pub mod Events
 pub mod Statuses
 pub mod MultisetTest
+pub mod Runs
 -- What is proved of them.
 pub mod Effects
 -- The contracts of private functions.
-pub mod Calls
+pub mod Private

@@ -4,60 +4,75 @@ use mathlib.Core.Bool.{Bool, not, cond}
 use mathlib.Core.List.{List, [], _∷_, _++_, map}
 use Prim.Native.Nat.{ℕ, suc, _+_}
 use lib.Dec.{ltb, eqb}
-use lib.ListN.{length, getD, drop, replicate}
+use lib.ListN.{length, drop, replicate}
 use Rattle.soda.specs.Lists.{all}
+use Rattle.soda.specs.Roles.{roles}
+use Rattle.soda.specs.Tables.{satisfied}
 use Rattle.soda.specs.Multisets.{multiset}
+use Rattle.soda.specs.declared.Action.{Action}
+use Rattle.policy.specs.Codes.{MALFORMED, FULL, WORKSPACE}
 use Rattle.policy.specs.Refusals.{_gives_, code}
-use Rattle.policy.specs.Words.{decode, termOf}
-use Rattle.policy.specs.Reading.{metOf}
 use Rattle.workspace.specs.Workspace.{filled}
-use Rattle.workspace.specs.declared.Action.{Action}
 use Rattle.monitor.specs.declared.Verdict.{Verdict}
 use Rattle.monitor.specs.declared.Verdict.the-variants.{Yes, No, Refused}
-use Rattle.monitor.specs.Instances.{isZero, openRefusals}
-use Rattle.monitor.specs.Events.{satisfies}
+use Rattle.monitor.specs.Configurations.{isZero}
+use Rattle.monitor.specs.Instances.{noted}
+use Rattle.monitor.specs.Monitors.{Opening, policy, openRefusals}
 
--- how many actions in all
-abbrev pub total : List ℕ → ℕ
-total [] = 0
-total (c ∷ l) = c + total l
+-- 01's number for each case, and a letter for the answer, `y` or `n`; a refusal has none
+abbrev pub letterY : ℕ
+letterY = 121
 
--- the users, each as often as it occurs; the first count is that of user u
-abbrev pub listed : ℕ → List ℕ → List ℕ
-listed u [] = []
-listed u (c ∷ l) = replicate c u ++ listed (suc u) l
+abbrev pub letterN : ℕ
+letterN = 110
 
--- an action by a user under these words and rows
-abbrev pub notedBy : List ℕ → List ℕ → ℕ → Action
-notedBy words rows u = record { user = u; met = metOf words u (getD rows u 0) }
-
--- 12, the opening's order, 7, 8; n is the length of the workspace
-unfoldable pub testRefusals : ℕ → ℕ → List ℕ → List ℕ → List ℕ → ℕ → List (Bool × ℕ)
-testRefusals users roles words rows counts n =
-    (ltb n 8192 gives 12)
-    ∷ (openRefusals users roles words rows
-    ++ ((not (all isZero (drop users counts)) gives 7) ∷ (ltb 12 (total counts) gives 8) ∷ []))
-
-abbrev pub testCode : ℕ → ℕ → List ℕ → List ℕ → List ℕ → ℕ → ℕ
-testCode users roles words rows counts n = code (testRefusals users roles words rows counts n)
-
--- yes exactly when the actions satisfy the policy; their order plays no part (`TestIsMultiset` of Claims)
-unfoldable pub verdict : ℕ → ℕ → List ℕ → List ℕ → List ℕ → ℕ → Verdict
-verdict users roles words rows counts n =
-    cond (eqb (testCode users roles words rows counts n) 0)
-    (cond (satisfies (termOf (decode words)) (map (notedBy words rows) (listed 0 counts))) Yes No)
-    (Refused (testCode users roles words rows counts n))
-
--- The order in which the multiset's actions are numbered is left to the program: the workspace fits some numbering. A refusal
--- leaves it as it was.
-pub record Numbered (users roles : ℕ) (words rows counts before after : List ℕ) : Type 0 where
-  pub order : List ℕ
-  pub same : multiset order ≡ multiset (listed 0 counts)
-  pub room : after ≡ cond (eqb (testCode users roles words rows counts (length before)) 0)
-      (filled (termOf (decode words)) (map (notedBy words rows) order) before) before
-
--- 01's number for each case
 abbrev pub verdictNumber : Verdict → ℕ
 verdictNumber Yes = 0
 verdictNumber No = 0
 verdictNumber (Refused k) = k
+
+abbrev pub verdictLetter : Verdict → ℕ
+verdictLetter Yes = letterY
+verdictLetter No = letterN
+verdictLetter (Refused k) = 0
+
+-- how many actions in all
+abbrev pub total : List ℕ → ℕ
+total [] = 0
+total (k ∷ l) = k + total l
+
+-- the users, each as often as it occurs; the first count is that of user u
+abbrev pub listed : ℕ → List ℕ → List ℕ
+listed u [] = []
+listed u (k ∷ l) = replicate k u ++ listed (suc u) l
+
+-- an action by a user, by the roles that the opening gives
+abbrev pub notedBy : Opening → ℕ → Action
+notedBy o u = noted (o .words) u (roles (o .rows) u)
+
+-- 12, the opening's order, 7, 8; room is the length of the workspace
+unfoldable pub testRefusals : Opening → List ℕ → ℕ → List (Bool × ℕ)
+testRefusals o counts room =
+    (ltb room 8192 gives WORKSPACE)
+    ∷ (openRefusals o ++ ((not (all isZero (drop (o .users) counts)) gives MALFORMED) ∷ (ltb 12 (total counts) gives FULL) ∷ []))
+
+abbrev pub testCode : Opening → List ℕ → ℕ → ℕ
+testCode o counts room = code (testRefusals o counts room)
+
+-- the number and the letter: yes exactly when the actions satisfy the policy; their order plays no part (`TestIsMultiset` of claims)
+pub record TestOutcome : Type 0 where
+  pub code : ℕ
+  pub letter : ℕ
+
+unfoldable pub testOf : Opening → List ℕ → ℕ → TestOutcome
+testOf o counts room = record {
+  code = testCode o counts room;
+  letter = cond (eqb (testCode o counts room) 0) (cond (satisfied (policy o) 0 (map (notedBy o) (listed 0 counts))) letterY letterN) 0;
+}
+
+-- The order in which the multiset's actions are numbered is left to the program: the workspace fits some numbering. A refusal
+-- leaves it as it was.
+pub record Numbered (o : Opening) (counts before after : List ℕ) : Type 0 where
+  pub order : List ℕ
+  pub same : multiset order ≡ multiset (listed 0 counts)
+  pub workspace : after ≡ cond (eqb (testCode o counts (length before)) 0) (filled (policy o) (map (notedBy o) order) before) before

@@ -1,36 +1,30 @@
 -- The status (document 01: standing), and document 01's number and letter for each case of the answer.
-use mathlib.Core.Bool.{Bool, not, cond}
-use mathlib.Core.List.{List, [], _∷_}
+use mathlib.Core.Bool.{Bool, cond}
+use mathlib.Core.List.{List}
 use Prim.Native.Nat.{ℕ}
-use lib.Dec.{ltb, eqb}
+use lib.Dec.{eqb}
 use lib.ListN.{length}
-use Rattle.policy.specs.Refusals.{_gives_, code}
+use Rattle.soda.specs.Tables.{satisfied}
+use Rattle.policy.specs.Refusals.{code}
 use Rattle.workspace.specs.Workspace.{filled}
 use Rattle.monitor.specs.declared.Instance.{Instance}
+use Rattle.monitor.specs.declared.Monitor.{Monitor}
 use Rattle.monitor.specs.declared.Status.{Status}
 use Rattle.monitor.specs.declared.Status.the-variants.{Closed, Complete, Open, Refused}
-use Rattle.monitor.specs.Instances.{takenOf, term, wellFormed}
-use Rattle.monitor.specs.Events.{satisfies}
+use Rattle.monitor.specs.Instances.{takenOf, term, isClosed}
+use Rattle.monitor.specs.Monitors.{admission}
 
--- `d` closed, else `c` if the taken actions satisfy, else `o`
-abbrev pub standing : Instance → Status
-standing i = cond (i .closed) Closed (cond (satisfies (term i) (takenOf i)) Complete Open)
+-- the letters `d`, `c` and `o` as bytes
+abbrev pub letterD : ℕ
+letterD = 100
 
--- 12, 15
-unfoldable pub statusRefusals : Instance → ℕ → List (Bool × ℕ)
-statusRefusals i n = (ltb n 8192 gives 12) ∷ (not (wellFormed i) gives 15) ∷ []
+abbrev pub letterC : ℕ
+letterC = 99
 
-abbrev pub statusCode : Instance → List ℕ → ℕ
-statusCode i room = code (statusRefusals i (length room))
+abbrev pub letterO : ℕ
+letterO = 111
 
-unfoldable pub statusOf : Instance → List ℕ → Status
-statusOf i room = cond (eqb (statusCode i room) 0) (standing i) (Refused (statusCode i room))
-
--- after a status the workspace speaks of the taken actions; a refusal leaves it
-unfoldable pub statusWorkspace : Instance → List ℕ → List ℕ
-statusWorkspace i room = cond (eqb (statusCode i room) 0) (filled (term i) (takenOf i) room) room
-
--- 01's number for each case, and the letter as a byte; a refusal has no letter
+-- 01's number for each case, and its letter; a refusal has no letter
 abbrev pub statusNumber : Status → ℕ
 statusNumber Closed = 0
 statusNumber Complete = 0
@@ -38,7 +32,31 @@ statusNumber Open = 0
 statusNumber (Refused k) = k
 
 abbrev pub letter : Status → ℕ
-letter Closed = 100
-letter Complete = 99
-letter Open = 111
+letter Closed = letterD
+letter Complete = letterC
+letter Open = letterO
 letter (Refused k) = 0
+
+-- `d` closed, else `c` if the taken actions satisfy, else `o`
+abbrev pub letterOf : Instance → ℕ
+letterOf i = cond (isClosed i) letterD (cond (satisfied (term i) 0 (takenOf i)) letterC letterO)
+
+-- 12, 15; n is the length of the workspace
+abbrev pub statusCode : Monitor → ℕ → ℕ
+statusCode m n = code (admission m n)
+
+abbrev pub statusLetter : Monitor → ℕ → ℕ
+statusLetter m n = cond (eqb (statusCode m n) 0) (letterOf (m .instance)) 0
+
+-- the number, the letter and the workspace, which then speaks of the taken actions; a refusal leaves it
+pub record StatusOutcome : Type 0 where
+  pub code : ℕ
+  pub letter : ℕ
+  pub workspace : List ℕ
+
+unfoldable pub statusOf : Monitor → List ℕ → StatusOutcome
+statusOf m before = record {
+  code = statusCode m (length before);
+  letter = statusLetter m (length before);
+  workspace = cond (eqb (statusCode m (length before)) 0) (filled (term (m .instance)) (takenOf (m .instance)) before) before;
+}

@@ -1,64 +1,153 @@
-// Opening an instance, and what is noted of an action.
+// The instance: as it starts under a policy, what is noted of an action, an action taken, a close, and its part of number 15.
 ghost use mathlib.Core.Path.{_≡_};
 ghost use Prim.Native.Nat.{_≤_, _<_};
-ghost use lib.ListN.{length};
-ghost use Rattle.monitor.specs.Instances.{fresh, opening, notedFor};
-use super::Answer;
+ghost use lib.ListN.{length, take, drop};
+ghost use Rattle.soda.specs.Lists.{all};
+ghost use Rattle.monitor.specs.Instances.{isClosed, instanceOf, notedFor, withAction, asClosed, isIdle, actionOk, isTidy, instanceOk};
+use super::Configuration;
 use super::Instance;
-use super::codes;
-use super::refused;
-use super::rows::padded_rows;
-use super::rows::padded_words;
-use super::rows::rows_ok;
+use super::lists::padded_words;
+use super::lists::zero_words;
 use policy::PolicyRead;
-use workspace::Action;
+use soda::Action;
+
+// Whether an unused place is all zero.
+fn is_idle(a: Action) -> bool
+    ensures { λ r. ⌜ r ≡ isIdle a ⌝ }
+{
+    (a.user == 0) & (a.met == 0)
+}
+
+// Whether a taken action is by a declared user, and has bits at words that begin unit terms only.
+fn action_ok(users: u16, units: u32, a: Action) -> bool
+    ensures { λ r. ⌜ r ≡ actionOk users units a ⌝ }
+{
+    let met = a.met;
+    (a.user < users as u32) & (met & units == met)
+}
+
+// Whether each taken action is so.
+fn actions_ok(users: u16, units: u32, actions: [Action; 12], taken: usize) -> bool
+    requires { ⌜ taken ≤ 12 ⌝ }
+    ensures { λ r. ⌜ r ≡ all (actionOk users units) (take taken actions) ⌝ }
+{
+    let mut i = 0;
+    while i < taken {
+        if !action_ok(users, units, actions[i]) {
+            return false;
+        }
+        i += 1;
+    }
+    true
+}
+
+// Whether the places from one on are unused.
+fn idle_actions(actions: [Action; 12], from: usize) -> bool
+    ensures { λ r. ⌜ r ≡ all isIdle (drop from actions) ⌝ }
+{
+    let mut i = from;
+    while i < 12 {
+        if !is_idle(actions[i]) {
+            return false;
+        }
+        i += 1;
+    }
+    true
+}
 
 impl Instance {
-    // An instance with no action, not closed.
-    fn fresh(users: u8, roles: u8, words: &[u32], rows: &[u16]) -> Self
-        requires { ⌜ (length (now words) ≤ 31) × (length (now rows) ≤ 16) ⌝ }
-        ensures { λ r. ⌜ r ≡ fresh users roles (now (words .entry)) (now (rows .entry)) ⌝ }
+    // An instance under a policy that was read as so many words: no action, not closed.
+    pub(crate) fn under(words: &[u32], count: usize) -> Self
+        requires { ⌜ (count ≡ length (now words)) × (count ≤ 31) ⌝ }
+        ensures { λ r. ⌜ r ≡ instanceOf (now (words .entry)) ⌝ }
     {
         let policy = padded_words(words);
-        let user_roles = padded_rows(rows);
         Instance {
             policy,
-            words: words.len() as u8,
-            users,
-            roles,
-            user_roles,
             actions: [Action { user: 0, met: 0 }; 12],
+            words: count as u16,
             taken: 0,
-            closed: false,
+            closed: 0,
         }
     }
 
-    // Opens an instance under a policy: 0 and the instance, or a number and the blank one.
-    pub fn open(users: u8, roles: u8, words: &[u32], rows: &[u16]) -> Answer
-        ensures { λ r. ⌜ r ≡ opening users roles (now (words .entry)) (now (rows .entry)) ⌝ }
+    // Whether the mark is set.
+    pub(crate) fn is_closed(self) -> bool
+        ensures { λ r. ⌜ r ≡ isClosed self ⌝ }
     {
-        let read = policy::read(users, roles, words);
-        let PolicyRead::Accepted { words: _, units: _ } = read else {
-            return refused(policy::number_of(read));
-        };
-        if !rows_ok(users, roles, rows) {
-            return refused(codes::ROWS);
-        }
-        Answer {
-            code: codes::ACCEPTED,
-            instance: Instance::fresh(users, roles, words, rows),
-        }
+        self.closed != 0
     }
 
-    // What is noted of an action by this user: the unit terms that the user meets now.
-    pub(crate) fn noted(self, user: u8) -> Action
+    // What is noted of an action by this user: the unit terms that the user meets by the roles held in the configuration.
+    pub(crate) fn noted(self, configuration: Configuration, user: u8) -> Action
         requires { ⌜ (self .words ≤ 31) × (user < 16) ⌝ }
-        ensures { λ r. ⌜ r ≡ notedFor self user ⌝ }
+        ensures { λ r. ⌜ r ≡ notedFor configuration self user ⌝ }
     {
         let policy = self.policy;
-        let rows = self.user_roles;
+        let rows = configuration.user_roles;
         let words = self.words as usize;
         let held = rows[user as usize];
         Action::new(user, policy::met(&policy[..words], user, held))
+    }
+
+    // The next place holds the action, and there is one more.
+    pub(crate) fn with_action(self, action: Action) -> Self
+        requires { ⌜ self .taken < 12 ⌝ }
+        ensures { λ r. ⌜ r ≡ withAction self action ⌝ }
+    {
+        let at = self.taken;
+        let mut next = self;
+        next.actions[at as usize] = action;
+        next.taken = at + 1;
+        next
+    }
+
+    // The mark is set.
+    pub(crate) fn as_closed(self) -> Self
+        ensures { λ r. ⌜ r ≡ asClosed self ⌝ }
+    {
+        let mut next = self;
+        next.closed = 1;
+        next
+    }
+
+    // Whether every unused policy word and place is zero.
+    fn is_tidy(self) -> bool
+        ensures { λ r. ⌜ r ≡ isTidy self ⌝ }
+    {
+        let policy = self.policy;
+        if !zero_words(policy, self.words as usize) {
+            return false;
+        }
+        let actions = self.actions;
+        idle_actions(actions, self.taken as usize)
+    }
+
+    // Whether the policy would be accepted, the taken actions are as they must be, and what is unused is zero.
+    pub(crate) fn is_well_formed(self, configuration: Configuration) -> bool
+        requires { ⌜ (configuration .users ≤ 16) × (configuration .roles ≤ 16) ⌝ }
+        ensures { λ r. ⌜ r ≡ instanceOk configuration self ⌝ }
+    {
+        let words = self.words as usize;
+        if 31 < words {
+            return false;
+        }
+        let policy = self.policy;
+        let read = policy::read(
+            configuration.users as u8,
+            configuration.roles as u8,
+            &policy[..words],
+        );
+        let PolicyRead::Accepted { words: _, units } = read else {
+            return false;
+        };
+        if 12 < self.taken {
+            return false;
+        }
+        let actions = self.actions;
+        if !actions_ok(configuration.users, units, actions, self.taken as usize) {
+            return false;
+        }
+        self.is_tidy()
     }
 }

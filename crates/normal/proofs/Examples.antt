@@ -23,16 +23,12 @@ normal u r ws o k n = record { users = u; roles = r; words = ws; out = o; number
 
 abbrev normals : List NormalCase
 normals =
-    -- 01's P10, in an output of two words more
-    normal 3 3 F (replicate 12 7) 0 (
-    0x08000000 ∷ 0x05000000 ∷ 0x01000000 ∷ 0x09000000 ∷ 0x02000000 ∷ 0x06000000 ∷ 0x02000002
-    ∷ 0x09000000 ∷ 0x02000000 ∷ 0x02000000 ∷ 7 ∷ 7 ∷ []
-    )
-    -- 01's P11: both sides are equal, and both are kept
-    ∷ normal 3 3 (0x07000000 ∷ 0x01000000 ∷ 0x01000000 ∷ []) (replicate 3 7) 0 (0x07000000 ∷ 0x01000000 ∷ 0x01000000 ∷ [])
-    -- a chain that leans left, with its operands descending
-    ∷ normal 3 3 (0x06000000 ∷ 0x06000000 ∷ 0x02000002 ∷ 0x02000001 ∷ 0x02000000 ∷ []) (replicate 5 7) 0
-    (0x06000000 ∷ 0x02000000 ∷ 0x06000000 ∷ 0x02000001 ∷ 0x02000002 ∷ [])
+    -- a chain that leans left, with its operands descending, in an output of two words more
+    normal 3 3 (0x06000000 ∷ 0x06000000 ∷ 0x02000002 ∷ 0x02000001 ∷ 0x02000000 ∷ []) (replicate 7 7) 0
+    (0x06000000 ∷ 0x02000000 ∷ 0x06000000 ∷ 0x02000001 ∷ 0x02000002 ∷ 7 ∷ 7 ∷ [])
+    -- equal operands are all kept
+    ∷ normal 3 3 (0x08000000 ∷ 0x02000001 ∷ 0x08000000 ∷ 0x02000000 ∷ 0x02000001 ∷ []) (replicate 5 7) 0
+    (0x08000000 ∷ 0x02000000 ∷ 0x08000000 ∷ 0x02000001 ∷ 0x02000001 ∷ [])
     -- 13, and 5 and 4 before 13
     ∷ normal 3 3 F (replicate 9 7) 13 (replicate 9 7)
     ∷ normal 3 17 F [] 5 []

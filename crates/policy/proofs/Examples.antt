@@ -56,8 +56,7 @@ cases =
     -- 3 before 4: plus over together with a word left over, and with the words running out
     ∷ row 3 3 (0x05000000 ∷ 0x08000000 ∷ 0x01000000 ∷ 0x01000000 ∷ 0x01000000 ∷ []) (Refused TERM) 0
     ∷ row 3 3 (0x05000000 ∷ 0x08000000 ∷ 0x01000000 ∷ []) (Refused TERM) 0
-    -- 01's P12, plus over together; not over plus
-    ∷ row 3 3 (0x05000000 ∷ 0x08000000 ∷ 0x01000000 ∷ 0x01000000 ∷ []) (Refused UNIT) 12
+    -- not over plus
     ∷ row 3 3 (0x04000000 ∷ 0x05000000 ∷ 0x01000000 ∷ []) (Refused UNIT) 4
     ∷ []
 

@@ -7,7 +7,8 @@ use Prim.Native.Nat.{ℕ, _+_}
 use Rattle.soda.specs.Bits.{bit}
 use Rattle.soda.specs.Terms.{Term, everyone, role, set, ¬ᵗ_, _⁺, bin, unit, wellFormed, size}
 use Rattle.soda.specs.Roles.{meets}
-use Rattle.soda.specs.Tables.{bitTable, Action, Execution, metBy, judge, note}
+use Rattle.soda.specs.declared.Action.{Action}
+use Rattle.soda.specs.Tables.{bitTable, Execution, metBy, judge, note}
 use Rattle.soda.specs.Accuracy.{NotedIsMeant}
 use Rattle.soda.proofs.Bools.{and-split}
 use Rattle.soda.proofs.Terms.{Stands, stands-whole, stands-plus, stands-left, stands-right, bit-standing}

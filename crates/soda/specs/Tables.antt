@@ -7,6 +7,7 @@ use Rattle.soda.specs.Bits.{bit}
 use Rattle.soda.specs.Lists.{any, all, splits}
 use Rattle.soda.specs.Terms.{Op, either, both, together, apart, Term, everyone, role, set, ¬ᵗ_, _⁺, bin, unit, size, marks}
 use Rattle.soda.specs.Roles.{meets}
+use Rattle.soda.specs.declared.Action.{Action}
 
 -- The two columns differ for the empty set alone. It satisfies nothing, and is possible for every term: e says which.
 module _ {A : Type 0} where
@@ -54,11 +55,7 @@ module _ {A : Type 0} (user : A → ℕ) where
   abbrev pub bitTable : (A → ℕ) → Bool → Term → ℕ → List A → Bool
   bitTable bits = table (λ φ i a. bit i (bits a))
 
--- A taken action as the product keeps it: its user, and bit i of `met` for whether the user met the unit term at word i.
-pub record Action : Type 0 where
-  pub user : ℕ
-  pub met : ℕ
-
+-- over the actions that the product keeps
 abbrev pub satisfied : Term → ℕ → List Action → Bool
 satisfied = bitTable (λ a. a .user) (λ a. a .met) false
 

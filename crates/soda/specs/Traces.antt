@@ -6,7 +6,8 @@ use Prim.Native.Nat.{ℕ}
 use lib.Dec.{ltb}
 use Rattle.soda.specs.Terms.{Term, _⁺, _⊔ᵗ_, _⊓ᵗ_, _⊙_, _⊗_, unit}
 use Rattle.soda.specs.Roles.{UA, roles, grant, revoke}
-use Rattle.soda.specs.Tables.{Action, Execution, note}
+use Rattle.soda.specs.declared.Action.{Action}
+use Rattle.soda.specs.Tables.{Execution, note}
 use Rattle.soda.specs.Multisets.{Multiset, ∅ᵐ, singleton, _⊎ᵐ_, _∩ᵐ_, SatM}
 
 -- bc.u.a: user u executes action a. ac.addUA.u.r and ac.rmUA.u.r: role r is granted to user u, or revoked.

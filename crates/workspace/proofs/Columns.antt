@@ -20,7 +20,7 @@ use Rattle.policy.specs.Shapes.{rightSides}
 use Rattle.policy.specs.declared.Shape.{Shape}
 use Rattle.workspace.specs.Workspace.{range, judged, rowOf, column, tableOf, filled}
 use Rattle.workspace.specs.Private.{Masked, Ascending, Listing, Operators, Coded, Suited, Tables, Known, Cleared, Entered, AddedAll, RowsStand, Shaped}
-use Rattle.workspace.specs.declared.Action.{Action}
+use Rattle.soda.specs.declared.Action.{Action}
 use Rattle.workspace.specs.declared.masks.Masks.{Masks}
 use Rattle.workspace.proofs.Digits.{lt-or-le, bit-ones}
 use Rattle.workspace.proofs.Select.{select-none, select-take}

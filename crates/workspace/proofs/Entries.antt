@@ -20,7 +20,7 @@ use Rattle.soda.proofs.Bits.{bit-number}
 use Rattle.soda.proofs.Splits.{any-append}
 use Rattle.workspace.specs.Workspace.{range, select, judged, rowOf}
 use Rattle.workspace.specs.Private.{place, Unpacked, Next, Suited, Acting, Noted, RowIs, RowOf, Tables, tables, Long, Entry, Known, Cleared, Kept, Entered, Added, AddedAll}
-use Rattle.workspace.specs.declared.Action.{Action}
+use Rattle.soda.specs.declared.Action.{Action}
 use Rattle.workspace.specs.declared.masks.Masks.{Masks}
 use Rattle.workspace.proofs.Digits.{lt-or-le, bit-and, bit-or, bit-shr, bit-power, bit-ext}
 use Rattle.workspace.proofs.Select.{select-next}

@@ -18,7 +18,7 @@ use Rattle.policy.specs.Shapes.{rightSides, blankShape, termShape, shapeIn, sha
 use Rattle.policy.specs.declared.Shape.{Shape}
 use Rattle.workspace.specs.Workspace.{isFillable, filled, fillOf}
 use Rattle.workspace.specs.Private.{Shaped}
-use Rattle.workspace.specs.declared.Action.{Action}
+use Rattle.soda.specs.declared.Action.{Action}
 use Rattle.workspace.proofs.Subterms.{rights-length}
 
 abbrev pub users-ok : List Action → Bool

@@ -20,7 +20,7 @@ use Rattle.soda.proofs.Parts.{part-is-possible, satisfied-is-possible}
 use Rattle.policy.specs.Shapes.{isPlus, isOp, rightSides}
 use Rattle.workspace.specs.Workspace.{select, judged}
 use Rattle.workspace.specs.Private.{place, Packed, Part, Joined, matched, allowed, jointly, Chance, based, bySides, Finished, Suited, RowIs, Sides}
-use Rattle.workspace.specs.declared.Action.{Action}
+use Rattle.soda.specs.declared.Action.{Action}
 use Rattle.workspace.specs.declared.masks.Masks.{Masks}
 use Rattle.workspace.proofs.Digits.{bit-or, bit-ones}
 use Rattle.workspace.proofs.Submask.{Within}

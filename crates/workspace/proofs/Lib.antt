@@ -8,5 +8,4 @@ pub mod Joint
 pub mod Judging
 pub mod Entries
 pub mod Columns
-pub mod Examples
 pub mod Fillable

@@ -13,7 +13,7 @@ use Rattle.soda.specs.Tables.{acts}
 use Rattle.policy.specs.Shapes.{isOp, rightSides, termShape}
 use Rattle.policy.specs.declared.Shape.{Shape}
 use Rattle.workspace.specs.Workspace.{select, judged, rowOf}
-use Rattle.workspace.specs.declared.Action.{Action}
+use Rattle.soda.specs.declared.Action.{Action}
 use Rattle.workspace.specs.declared.masks.Masks.{Masks}
 
 -- ── packed rows ──

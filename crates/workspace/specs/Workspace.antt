@@ -11,7 +11,7 @@ use Rattle.soda.specs.Terms.{Term, wellFormed, size, termAt}
 use Rattle.soda.specs.Tables.{bitTable}
 use Rattle.policy.specs.Words.{decode, termOf}
 use Rattle.policy.specs.Reading.{lengthOk}
-use Rattle.workspace.specs.declared.Action.{Action}
+use Rattle.soda.specs.declared.Action.{Action}
 
 -- the n numbers from i on
 abbrev pub range : ℕ → ℕ → List ℕ

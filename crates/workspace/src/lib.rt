@@ -15,23 +15,7 @@ mod sizes;
 mod tables;
 
 use sizes::fill_by;
-
-// A taken action (document 01): its user, and bit i of met for whether the user met the unit term at word i.
-#[repr(C)]
-pub struct Action {
-    pub user: u32,
-    pub met: u32,
-}
-
-impl Action {
-    // An action of a user who met the unit terms at these words.
-    pub fn new(user: u8, met: u32) -> Self
-        ensures { λ r. ⌜ r ≡ record { user = user; met = met } ⌝ }
-    {
-        let user = user as u32;
-        Self { user, met }
-    }
-}
+use soda::Action;
 
 // Whether the users of the first taken actions are below 16.
 fn users_ok(actions: [Action; 12], taken: u8) -> bool

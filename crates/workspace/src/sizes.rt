@@ -7,12 +7,12 @@ ghost use lib.ListN.{length, take};
 ghost use Rattle.soda.specs.Lists.{all};
 ghost use Rattle.workspace.specs.Workspace.{filled};
 ghost use Rattle.workspace.specs.Private.{Coded, Cleared, RowsStand, Shaped};
-use super::Action;
 use super::masks::Masks;
 use super::masks::masks_of;
 use super::rows::operators;
 use super::tables::fill_tables;
 use policy::Shape;
+use soda::Action;
 
 // Zero in the first 8,192 words.
 fn clear(workspace: &mut [u32])

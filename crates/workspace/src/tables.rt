@@ -6,10 +6,10 @@ ghost use lib.Dec.{ltb};
 ghost use lib.ListN.{take};
 ghost use Rattle.soda.specs.Lists.{all};
 ghost use Rattle.workspace.specs.Private.{Next, Coded, tables, Long, Entered, Added, AddedAll, RowsStand};
-use super::Action;
 use super::masks::Masks;
 use super::masks::unpacked;
 use super::rows::row_of;
+use soda::Action;
 
 // Enters the row of the set s into the tables, with its users and the unit terms that all its actions met.
 fn enter(

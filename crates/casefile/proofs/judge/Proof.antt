@@ -7,14 +7,16 @@ use native.Mathlib.Omega.{arith}
 use borrow.Author.Needs.{needs}
 use borrow.Author.Tests.{lt-ltb, le-ltb, eq-eqb, ne-eqb, not-true, not-false}
 use lib.ListN.{length, drop}
-use Rattle.monitor.specs.declared.Instance.{Instance}
+use Rattle.monitor.specs.declared.Monitor.{Monitor}
 use Rattle.monitor.specs.declared.Answer.{Answer}
-use Rattle.monitor.specs.Instances.{openCode, fresh, opening, wellFormed}
-use Rattle.monitor.proofs.Kept.{opened-is-well-formed}
+use Rattle.policy.specs.Codes.{CASE}
+use Rattle.monitor.specs.Monitors.{openCode, fresh, opened, wellFormed}
+use Rattle.monitor.proofs.Opening.{opened-fresh}
+use Rattle.monitor.proofs.Preserved.{opened-is-well-formed}
 use Rattle.casefile.specs.declared.Printed.the-variants.{Written}
-use Rattle.casefile.specs.Cases.{caseOk, policyWords, usersOf, rolesOf, rowsOf, eventWords}
+use Rattle.casefile.specs.Cases.{caseOk, openingOf, eventWords}
 use Rattle.casefile.specs.Texts.{refusedText, runText, caseText, limit, printed, output}
-use Rattle.casefile.specs.Calls.{Put}
+use Rattle.casefile.specs.Private.{Put}
 use Rattle.casefile.proofs.Decimals.{refused-length}
 use Rattle.casefile.proofs.judge.Statement.{statement}
 use Rattle.casefile.proofs.judge.Tie as tie
@@ -22,12 +24,9 @@ use Rattle.casefile.proofs.judge.Tie as tie
 -- ── the text of a case ──
 module _ (b : List ℕ) where
   abbrev number : ℕ
-  number = openCode (usersOf b) (rolesOf b) (policyWords b) (rowsOf b)
+  number = openCode (openingOf b)
 
-  abbrev opened : Instance
-  opened = fresh (usersOf b) (rolesOf b) (policyWords b) (rowsOf b)
-
-  malformed-text : caseOk b ≡ false → caseText b ≡ refusedText 14
+  malformed-text : caseOk b ≡ false → caseText b ≡ refusedText CASE
   unfolding caseText
   malformed-text h = rw h
 
@@ -35,7 +34,7 @@ module _ (b : List ℕ) where
   unfolding caseText
   refused-text h n = rw (h, ne-eqb number 0 n)
 
-  opened-text : caseOk b ≡ true → number ≡ 0 → caseText b ≡ runText opened (eventWords b)
+  opened-text : caseOk b ≡ true → number ≡ 0 → caseText b ≡ runText (opened (openingOf b)) (eventWords b)
   unfolding caseText
   opened-text h z = rw (h, eq-eqb number 0 z)
 
@@ -89,12 +88,10 @@ module _ (c : tie.After-open-case) where
   case = bytes (c .before)
 
   code-is : c .open-case .result .code ≡ number case
-  unfolding opening
   code-is = ap (λ (a : Answer). a .code) (c .open-case .ensures)
 
-  instance-is : number case ≡ 0 → c .open-case .result .instance ≡ opened case
-  unfolding opening
-  instance-is z = ap (λ (a : Answer). a .instance) (c .open-case .ensures) ∙ rw (eq-eqb (number case) 0 z)
+  left-is : c .open-case .result .monitor ≡ opened (openingOf case)
+  left-is = ap (λ (a : Answer). a .monitor) (c .open-case .ensures)
 
 put-refused-requires-2 : tie.Need-put-refused-requires-2
 put-refused-requires-2 c κs =
@@ -118,8 +115,8 @@ module _ (c : tie.Else3) where
   accepted : number (case (c .before)) ≡ 0
   accepted = sym (code-is (c .before)) ∙ c .if3 .left
 
-  fresh-is : c .before .open-case .result .instance ≡ opened (case (c .before))
-  fresh-is = instance-is (c .before) accepted
+  fresh-is : c .before .open-case .result .monitor ≡ fresh (openingOf (case (c .before)))
+  fresh-is = left-is (c .before) ∙ opened-fresh (openingOf (case (c .before))) accepted
 
 run-requires : tie.Need-run-requires
 unfolding fresh
@@ -127,8 +124,8 @@ run-requires c κs =
     let e = c .before .before in
     let b = case (e .before) in
     record {
-      isFormed = subst (λ (i : Instance). So (wellFormed i)) (sym (fresh-is e)) (opened-is-well-formed (usersOf b) (rolesOf b) (policyWords b) (rowsOf b) (accepted e));
-      none = ap (λ (i : Instance). i .taken) (fresh-is e);
+      isFormed = subst (λ (i : Monitor). So (wellFormed i)) (sym (fresh-is e)) (opened-is-well-formed (openingOf b) (accepted e));
+      none = ap (λ (i : Monitor). i .instance .taken) (fresh-is e);
       case = well (e .before .before);
       fits = e .before .before .before .before .if1 .left;
     }
@@ -142,8 +139,8 @@ returns-4 c =
     let e = p .before .before .before in
     let o = e .before in
     let s = o .before .before .before .before .before .before in
-    let text : caseText (case o) ≡ runText (o .open-case .result .instance) (eventWords (case o)) =
-    opened-text (case o) (well (o .before)) (accepted e) ∙ ap (λ (i : Instance). runText i (eventWords (case o))) (sym (fresh-is e)) in
+    let text : caseText (case o) ≡ runText (o .open-case .result .monitor) (eventWords (case o)) =
+    opened-text (case o) (well (o .before)) (accepted e) ∙ ap (λ (i : Monitor). runText i (eventWords (case o))) (sym (left-is o)) in
     answered (case o) (s .args .out .now) (o .before .before .before .if1 .left) text (p .run .ensures)
 
 pub judge-spec : {M : Type 1} → statement M

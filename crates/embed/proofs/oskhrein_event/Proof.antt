@@ -1,5 +1,5 @@
--- A walk of the code by hand. The borrow of the instance is opened, the instance is copied out and passed by value to `event`; the
--- answer's instance is stored in the cell, and the borrow is closed at it. The workspace goes on to `event` at its own lifetime, share
+-- A walk of the code by hand. The borrow of the monitor is opened, the monitor is copied out and passed by value to `event`; the
+-- answer's monitor is stored in the cell, and the borrow is closed at it. The workspace goes on to `event` at its own lifetime, share
 -- and ghost name: what `event` says of its last list is what is to be shown.
 use mathlib.Core.Path.{_≡_, refl}
 use mathlib.Core.List.{[], _∷_}
@@ -34,14 +34,14 @@ use denote.Triple.Table.{cited}
 use denote.Triple.Walked.{says, Stays, stay-ref, stay-dropped, gave-slice, goes-ref, goes-dropped, goes-gave-slice, ends-at}
 use denote.Exit.{yes}
 use Rattle.monitor.specs.Events.{outcome}
-use Rattle.monitor.proofs.Instance as I
-use Rattle.monitor.proofs.Instance.Laws as I′
+use Rattle.monitor.proofs.Monitor as I
+use Rattle.monitor.proofs.Monitor.Laws as I′
 use Rattle.monitor.proofs.Answer as N
 use Rattle.monitor.proofs.Answer.Laws as N′
-use Rattle.monitor.proofs.Instance.event as event
-use Rattle.monitor.proofs.Instance.event.Symbol as event-def
-use Rattle.monitor.proofs.Instance.event.Met as event-thm
-use Rattle.embed.proofs.Walks.{mach, code-fits, instance-is, opens-instance, closes-instance, local, sets, goes, answers, Spelling, spelled, Walk, proves}
+use Rattle.monitor.proofs.Monitor.event as event
+use Rattle.monitor.proofs.Monitor.event.Symbol as event-def
+use Rattle.monitor.proofs.Monitor.event.Met as event-thm
+use Rattle.embed.proofs.Walks.{mach, code-fits, monitor-is, opens-monitor, closes-monitor, local, sets, goes, answers, Spelling, spelled, Walk, proves}
 use Rattle.embed.proofs.oskhrein_event as this
 use Rattle.embed.proofs.oskhrein_event.Key as key
 use Rattle.embed.proofs.oskhrein_event.Statement as stated
@@ -58,7 +58,7 @@ module _ {M : Type 1} (𝓤 : URA M) (H : Heap 𝓤) (A : Atoms 𝓤) (W : Given
   abbrev Event : Contract 𝓤
   Event = tripleOf 𝓤 H A event.signature (event.spec 𝓤 H A at-mem run)
 
-  -- what it binds outside: the instance by value, and the workspace at its own lifetime, share and name
+  -- what it binds outside: the monitor by value, and the workspace at its own lifetime, share and name
   abbrev to-event : (κs : Lfts 2) (qs : Shares 2) → Args this.signature κs → Event .Ghost
   to-event κs qs a = ((κs .1, qs .1, tt, (a .0 .now, a .1), (mach (a .0 .now) ∷ [], spelled this.ended spells κs a .1)), tt)
 
@@ -66,8 +66,8 @@ module _ {M : Type 1} (𝓤 : URA M) (H : Heap 𝓤) (A : Atoms 𝓤) (W : Given
   walk known κs qs bounds a g are =
       enter ! _ _ _ _ _ $ alloc1 ! (λ l₀. alloc1 ! (λ l₁. alloc1 ! (λ l₂. alloc1 ! (λ l₃. alloc1 ! (λ l₄. alloc1 ! (λ l₅. alloc1 ! (λ l₆. alloc1 ! (λ l₇. alloc0 ! $ params1 ! $
       pass1 ! (init ! 12 refl (tt, tt)) $ pass1 ! (init ! 10 refl (tt, record { fits = are .1 .0 .1 })) $ pass1 ! (init ! 8 refl (tt, (tt, (record { fits = are .1 .1 .0 .0 .1 .0 }, tt)))) $ pass0 ! $
-      move ! (17 ∷ 16 ∷ []) $ fsplit ! $ move ! (2 ∷ []) $ split ! $ move ! (2 ∷ 0 ∷ 3 ∷ 1 ∷ []) $ opens-instance ! tt (a .0) (λ h.
-      -- [the instance's cell; the open borrow; what word and workspace own; the workspace's token; _7; …; _6; …; _5; …; _4; …; _3; …; _2; …; _1; …; room for _0; …]
+      move ! (17 ∷ 16 ∷ []) $ fsplit ! $ move ! (2 ∷ []) $ split ! $ move ! (2 ∷ 0 ∷ 3 ∷ 1 ∷ []) $ opens-monitor ! tt (a .0) (λ h.
+      -- [the monitor's cell; the open borrow; what word and workspace own; the workspace's token; _7; …; _6; …; _5; …; _4; …; _3; …; _2; …; _1; …; room for _0; …]
       sets ! (of-opd ! (load ! (from ! (hop ! (look ! 16 refl) (stop !))) (look ! 0 refl))) 10 refl (LL.lawful I.the-type I′.the-laws 𝓤 H A W .typed (a .0 .now) _ h .0) $
       sets ! (addr ! (from ! (fld ! refl (hop ! (look-in ! 12 (sub ! 0 refl (whole !))) (stop !))))) 6 refl (tt, tt) $
       sets ! (agg ! (and-then ! (local ! 6 refl) (and-then ! (load ! (from ! (fld ! refl (stop !))) (look-in ! 12 (sub ! 1 refl (whole !)))) (no-more !)))) 4 refl (tt, (tt, (record { fits = are .1 .1 .0 .0 .1 .0 }, tt))) $
@@ -76,17 +76,17 @@ module _ {M : Type 1} (𝓤 : URA M) (H : Heap 𝓤) (A : Atoms 𝓤) (W : Given
       join ! $ nothing ! $ move ! (1 ∷ 0 ∷ []) $ use2 W (raw (Event .pre (to-event κs qs a))) (id⊢ 𝓤 _) $
       calls-at ! (fmOf 𝓤 H (W .laws) 𝓣) Event known (to-event κs qs a) (and-then ! (local ! 9 refl) (and-then ! (local ! 13 refl) (and-then ! (local ! 3 refl) (no-more !)))) (λ v.
       answers ! event.ended (event.clauses 𝓤 H A at-mem run) (to-event κs qs a) (LL.vals N.the-type N′.the-laws) (LL.tells N.the-type N′.the-laws) (λ r ws is.
-      heard ! (record { code = r .code; instance = r .instance; workspace = ws .1 .1 .0 } ≡ outcome (a .0 .now) (a .1 .0) (a .1 .1 .0 .now)) (λ e.
-      -- [the workspace's token; the last values; the instance's cell; the open borrow; _7; …]
+      heard ! (record { code = r .code; monitor = r .monitor; workspace = ws .1 .1 .0 } ≡ outcome (a .0 .now) (a .1 .0) (a .1 .1 .0 .now)) (λ e.
+      -- [the workspace's token; the last values; the monitor's cell; the open borrow; _7; …]
       move ! (1 ∷ []) $ fsplit ! $ drop ! $ fsplit ! $ drop ! $ fsplit ! $ fsplit ! $ move ! (1 ∷ []) $ feqL ! (λ l.
-      -- [the workspace's last list; true; the workspace's token; the instance's cell; the open borrow; _7; …]
+      -- [the workspace's last list; true; the workspace's token; the monitor's cell; the open borrow; _7; …]
       land ! (from ! (stop !)) (init ! 9 refl (LL.lawful N.the-type N′.the-laws 𝓤 H A W .typed r _ is .0)) $
-      assigns ! (of-opd ! (load ! (from ! (fld ! refl (stop !))) (look-in ! 9 (sub ! 1 refl (whole !))))) (from ! (hop ! (look ! 17 refl) (stop !))) (store ! 3 refl (LL.lawful I.the-type I′.the-laws 𝓤 H A W .typed (r .instance) _ (instance-is r is) .0)) $
+      assigns ! (of-opd ! (load ! (from ! (fld ! refl (stop !))) (look-in ! 9 (sub ! 1 refl (whole !))))) (from ! (hop ! (look ! 17 refl) (stop !))) (store ! 3 refl (LL.lawful I.the-type I′.the-laws 𝓤 H A W .typed (r .monitor) _ (monitor-is r is) .0)) $
       sets ! (of-opd ! (load ! (from ! (fld ! refl (stop !))) (look-in ! 9 (sub ! 0 refl (whole !))))) 19 refl (tt, record { fits = code-fits r is }) $
-      move ! (3 ∷ 4 ∷ []) $ closes-instance ! tt (a .0) (r .instance) (instance-is r is) $
-      -- [the instance's borrow and token; the workspace's last list; true; the workspace's token; _7; …]
+      move ! (3 ∷ 4 ∷ []) $ closes-monitor ! tt (a .0) (r .monitor) (monitor-is r is) $
+      -- [the monitor's borrow and token; the workspace's last list; true; the workspace's token; _7; …]
       returns ! (look ! 19 refl) $ goes ! 19 refl refl $ goes ! 17 refl refl $ goes ! 15 refl refl $ goes ! 13 refl refl $ goes ! 11 refl refl $ goes ! 9 refl refl $ goes ! 7 refl refl $ goes ! 5 refl refl $ free0 ! $
-      suffices ! _ (ends-at 𝓤 H A this.ended stayed (this.clauses 𝓤 H A at-mem run) W ((κs, qs, bounds, a, spelled this.ended spells κs a), g) (vint w8 (r .code)) (r .code) (r .instance, (tt, (ws .1 .1 .0, tt))) (tt, (tt, (l, tt)))) $ says ! e $
+      suffices ! _ (ends-at 𝓤 H A this.ended stayed (this.clauses 𝓤 H A at-mem run) W ((κs, qs, bounds, a, spelled this.ended spells κs a), g) (vint w8 (r .code)) (r .code) (r .monitor, (tt, (ws .1 .1 .0, tt))) (tt, (tt, (l, tt)))) $ says ! e $
       move ! (1 ∷ 4 ∷ []) $ join ! $ frame ! $ move ! (1 ∷ 2 ∷ []) $ fjoin ! $ nothing ! $ fjoin ! $ move ! (1 ∷ 0 ∷ []) $ fjoin ! $
       owned ! u8 (Is u8) (uint-makes 𝓤 H A W w8) (r .code) _ (refl, code-fits r is) $ move ! (1 ∷ 0 ∷ []) $ done !)))))))))))))
 
@@ -99,4 +99,4 @@ oskhrein-event-spec 𝓤 H 𝓜 𝓖 𝓡 =
     proves 𝓤 H A W this.ended stayed (this.clauses 𝓤 H A (𝓜 .mem) (𝓡 .run)) spells
     (goes-ref 𝓤 H A W 2 0 tt (plain (λ _. I.the-row)), (goes-dropped 𝓤 H A W 2 (plain (λ _. u32)) yes (λ κs x f. refl), (goes-gave-slice 𝓤 H A W 2 1 tt (plain (λ _. u32)), tt)))
     (λ κs. (mut-tells (named 0) (κs .0) I.the-row, (uint-tells w32, (mut-slice-tells (named 1) (κs .1 .0) u32, tt)))) 𝓣 key.name code.function (code.unfolded 𝓤 H 𝓜 𝓡)
-    (walk 𝓤 H A W (𝓜 .mem) (𝓡 .run) 𝓣 (cited 𝓤 H (Event 𝓤 H A W (𝓜 .mem) (𝓡 .run) 𝓣) 𝓜 𝓡 code.env event-def.name event-def.routine code.calls-monitor·Instance·event (event-thm.met 𝓤 H 𝓜 𝓖 𝓡)))
+    (walk 𝓤 H A W (𝓜 .mem) (𝓡 .run) 𝓣 (cited 𝓤 H (Event 𝓤 H A W (𝓜 .mem) (𝓡 .run) 𝓣) 𝓜 𝓡 code.env event-def.name event-def.routine code.calls-monitor·Monitor·event (event-thm.met 𝓤 H 𝓜 𝓖 𝓡)))

@@ -1,4 +1,6 @@
 -- The byte of what the verdict is; the workspace is as the multiset test leaves it.
+use mathlib.Core.Path.{ap, _∙_}
+use Rattle.embed.specs.Bytes.{verdictByte}
 use borrow.Author.Needs.{needs}
 use Rattle.embed.proofs.oskhrein_satisfies.Statement.{statement}
 use Rattle.embed.proofs.oskhrein_satisfies.Tie as tie
@@ -15,7 +17,7 @@ same-length c = search needs
 returns : tie.Need-returns
 returns c =
     let s = c .before .before .before in
-    (rw (← s .satisfies .ensures .0) (c .verdict-byte .ensures), s .satisfies .ensures .1)
+    (c .verdict-byte .ensures ∙ ap verdictByte (s .satisfies .ensures .0), s .satisfies .ensures .1)
 
 pub oskhrein-satisfies-spec : {M : Type 1} → statement M
 oskhrein-satisfies-spec =

@@ -1,4 +1,4 @@
--- A walk of the code by hand. The `&` borrow of the instance is looked into, the instance is copied out, and the borrow is shut again;
+-- A walk of the code by hand. The `&` borrow of the monitor is looked into, the monitor is copied out, and the borrow is shut again;
 -- the copy goes by value to `status_of`, with the workspace at its own lifetime, share and ghost name.
 use mathlib.Core.Path.{_≡_, refl}
 use mathlib.Core.List.{[], _∷_}
@@ -32,14 +32,14 @@ use denote.Triple.Call.{calls-at}
 use denote.Triple.Table.{cited}
 use denote.Triple.Walked.{says, Stays, stay-dropped, gave-slice, goes-dropped, goes-gave-slice, ends-at}
 use denote.Exit.{yes}
-use Rattle.monitor.specs.Statuses.{statusOf, statusWorkspace}
+use Rattle.monitor.specs.Statuses.{statusOf}
 use Rattle.embed.specs.Bytes.{statusByte}
-use Rattle.monitor.proofs.Instance as I
-use Rattle.monitor.proofs.Instance.Laws as I′
+use Rattle.monitor.proofs.Monitor as I
+use Rattle.monitor.proofs.Monitor.Laws as I′
 use Rattle.embed.proofs.status_of as status-of
 use Rattle.embed.proofs.status_of.Symbol as status-of-def
 use Rattle.embed.proofs.status_of.Met as status-of-thm
-use Rattle.embed.proofs.Walks.{mach, looks-instance, shuts-instance, local, sets, goes, answers, Spelling, spelled, Walk, proves}
+use Rattle.embed.proofs.Walks.{mach, looks-monitor, shuts-monitor, local, sets, goes, answers, Spelling, spelled, Walk, proves}
 use Rattle.embed.proofs.oskhrein_status as this
 use Rattle.embed.proofs.oskhrein_status.Key as key
 use Rattle.embed.proofs.oskhrein_status.Statement as stated
@@ -56,7 +56,7 @@ module _ {M : Type 1} (𝓤 : URA M) (H : Heap 𝓤) (A : Atoms 𝓤) (W : Given
   abbrev StatusOf : Contract 𝓤
   StatusOf = tripleOf 𝓤 H A status-of.signature (status-of.spec 𝓤 H A at-mem run)
 
-  -- what it binds outside: the instance by value, and the workspace at its own lifetime, share and name
+  -- what it binds outside: the monitor by value, and the workspace at its own lifetime, share and name
   abbrev to-status : (κs : Lfts 2) (qs : Shares 2) → Args this.signature κs → StatusOf .Ghost
   to-status κs qs a = ((κs .1, qs .1, tt, (a .0 .now, a .1), (mach (a .0 .now) ∷ [], spelled this.ended spells κs a .1)), tt)
 
@@ -64,10 +64,10 @@ module _ {M : Type 1} (𝓤 : URA M) (H : Heap 𝓤) (A : Atoms 𝓤) (W : Given
   walk known κs qs bounds a g are =
       enter ! _ _ _ _ _ $ alloc1 ! (λ l₀. alloc1 ! (λ l₁. alloc1 ! (λ l₂. alloc1 ! (λ l₃. alloc1 ! (λ l₄. alloc1 ! (λ l₅. alloc0 ! $ params1 ! $
       pass1 ! (init ! 8 refl (tt, tt)) $ pass1 ! (init ! 6 refl (tt, (tt, (record { fits = are .1 .0 .0 .1 .0 }, tt)))) $ pass0 ! $
-      move ! (13 ∷ 12 ∷ []) $ fsplit ! $ move ! (2 ∷ []) $ split ! $ move ! (2 ∷ 0 ∷ 3 ∷ 1 ∷ []) $ looks-instance ! tt (a .0) (λ p h.
-      -- [a share of the instance's cell; what shuts the borrow; what workspace owns; the workspace's token; _5; …; _4; …; _3; …; _2; …; _1; …; room for _0; …]
-      sets ! (of-opd ! (load ! (from ! (hop ! (look ! 12 refl) (stop !))) (look ! 0 refl))) 8 refl (LL.lawful I.the-type I′.the-laws 𝓤 H A W .typed (a .0 .now) _ h .0) $ shuts-instance ! tt p (a .0) h $
-      -- [the instance's token; what workspace owns; the workspace's token; _5; …]
+      move ! (13 ∷ 12 ∷ []) $ fsplit ! $ move ! (2 ∷ []) $ split ! $ move ! (2 ∷ 0 ∷ 3 ∷ 1 ∷ []) $ looks-monitor ! tt (a .0) (λ p h.
+      -- [a share of the monitor's cell; what shuts the borrow; what workspace owns; the workspace's token; _5; …; _4; …; _3; …; _2; …; _1; …; room for _0; …]
+      sets ! (of-opd ! (load ! (from ! (hop ! (look ! 12 refl) (stop !))) (look ! 0 refl))) 8 refl (LL.lawful I.the-type I′.the-laws 𝓤 H A W .typed (a .0 .now) _ h .0) $ shuts-monitor ! tt p (a .0) h $
+      -- [the monitor's token; what workspace owns; the workspace's token; _5; …]
       sets ! (addr ! (from ! (fld ! refl (hop ! (look-in ! 9 (sub ! 0 refl (whole !))) (stop !))))) 5 refl (tt, tt) $
       sets ! (agg ! (and-then ! (local ! 5 refl) (and-then ! (load ! (from ! (fld ! refl (stop !))) (look-in ! 9 (sub ! 1 refl (whole !)))) (no-more !)))) 3 refl (tt, (tt, (record { fits = are .1 .0 .0 .1 .0 }, tt))) $
       -- the call
@@ -75,10 +75,10 @@ module _ {M : Type 1} (𝓤 : URA M) (H : Heap 𝓤) (A : Atoms 𝓤) (W : Given
       join ! $ nothing ! $ move ! (1 ∷ 0 ∷ []) $ use2 W (raw (StatusOf .pre (to-status κs qs a))) (id⊢ 𝓤 _) $
       calls-at ! (fmOf 𝓤 H (W .laws) 𝓣) StatusOf known (to-status κs qs a) (and-then ! (local ! 6 refl) (and-then ! (local ! 2 refl) (no-more !))) (λ v.
       answers ! status-of.ended (status-of.clauses 𝓤 H A at-mem run) (to-status κs qs a) (uint-vals w8) (uint-tells w8) (λ r ws is.
-      heard ! ((r ≡ statusByte (statusOf (a .0 .now) (a .1 .0 .now))) × (ws .1 .0 ≡ statusWorkspace (a .0 .now) (a .1 .0 .now))) (λ e.
-      -- [the workspace's token; the last values; the instance's token; _5; …]
+      heard ! ((r ≡ statusByte (statusOf (a .0 .now) (a .1 .0 .now))) × (ws .1 .0 ≡ statusOf (a .0 .now) (a .1 .0 .now) .workspace)) (λ e.
+      -- [the workspace's token; the last values; the monitor's token; _5; …]
       move ! (1 ∷ []) $ fsplit ! $ drop ! $ fsplit ! $ fsplit ! $ move ! (1 ∷ []) $ feqL ! (λ l.
-      -- [the workspace's last list; true; the workspace's token; the instance's token; _5; …]
+      -- [the workspace's last list; true; the workspace's token; the monitor's token; _5; …]
       land ! (from ! (stop !)) (init ! 14 refl (uint-lawful 𝓤 H A W w8 .typed r _ is .0)) $
       returns ! (look ! 14 refl) $ goes ! 14 refl refl $ goes ! 12 refl refl $ goes ! 10 refl refl $ goes ! 8 refl refl $ goes ! 6 refl refl $ goes ! 4 refl refl $ free0 ! $
       suffices ! _ (ends-at 𝓤 H A this.ended stayed (this.clauses 𝓤 H A at-mem run) W ((κs, qs, bounds, a, spelled this.ended spells κs a), g) (vint w8 r) r (tt, (ws .1 .0, tt)) (tt, (l, tt))) $ says ! e $

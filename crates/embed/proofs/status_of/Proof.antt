@@ -1,5 +1,6 @@
 -- The byte of what the status is; the workspace is as the status call leaves it.
 use mathlib.Core.Path.{ap, _∙_}
+use Rattle.monitor.specs.Statuses.{StatusOutcome}
 use Rattle.embed.specs.Bytes.{statusByte}
 use borrow.Author.Needs.{needs}
 use Rattle.embed.proofs.status_of.Statement.{statement}
@@ -17,7 +18,7 @@ same-length c = search needs
 returns : tie.Need-returns
 returns c =
     let s = c .before .before .before in
-    (c .status-byte .ensures ∙ ap statusByte (s .status .ensures .0), s .status .ensures .1)
+    (c .status-byte .ensures ∙ ap statusByte (s .status .ensures), ap (λ (o : StatusOutcome). o .workspace) (s .status .ensures))
 
 pub status-of-spec : {M : Type 1} → statement M
 status-of-spec = tie.close (tie.spec status-requires status-byte-requires same-length returns)

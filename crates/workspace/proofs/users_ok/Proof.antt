@@ -11,7 +11,7 @@ use lib.Seq.{drop-cons, getD-take, length-take-le}
 use borrow.Author.Needs.{needs}
 use borrow.Author.Tests.{lt-ltb, le-ltb}
 use Rattle.soda.specs.Lists.{all}
-use Rattle.workspace.specs.declared.Action.{Action}
+use Rattle.soda.specs.declared.Action.{Action}
 use Rattle.workspace.proofs.users_ok.Statement.{statement}
 use Rattle.workspace.proofs.users_ok.Tie as tie
 

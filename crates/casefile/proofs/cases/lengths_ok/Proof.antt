@@ -7,71 +7,71 @@ use native.Mathlib.Omega.{arith}
 use borrow.Author.Needs.{needs}
 use borrow.Author.Tests.{eq-eqb, ne-eqb, le-leb, lt-leb}
 use lib.Dec.{leb, eqb}
-use Rattle.casefile.specs.Cases.{extent}
+use Rattle.casefile.specs.Cases.{partLength}
 use Rattle.casefile.proofs.cases.lengths_ok.Statement.{statement}
 use Rattle.casefile.proofs.cases.lengths_ok.Tie as tie
 
-extent-of-requires : tie.Need-extent-of-requires
-extent-of-requires c κs = search needs
+length-of-requires : tie.Need-length-of-requires
+length-of-requires c κs = search needs
 
 returns : tie.Need-returns
 returns c =
     let b : List ℕ = c .before .before .before .args .bytes .now in
-    rw (ne-eqb (extent b 0 % 4) 0 (λ e. omega arith))
+    rw (ne-eqb (partLength b 0 % 4) 0 (λ e. omega arith))
 
-extent-of-requires-2 : tie.Need-extent-of-requires-2
-extent-of-requires-2 c κs = search needs
+length-of-requires-2 : tie.Need-length-of-requires-2
+length-of-requires-2 c κs = search needs
 
 -- the tests passed so far
 module _ (c : tie.Else1) where
   abbrev bytes : List ℕ
   bytes = c .before .before .before .args .bytes .now
 
-  policy-whole : eqb (extent bytes 0 % 4) 0 ≡ true
-  policy-whole = eq-eqb (extent bytes 0 % 4) 0 (omega arith)
+  policy-whole : eqb (partLength bytes 0 % 4) 0 ≡ true
+  policy-whole = eq-eqb (partLength bytes 0 % 4) 0 (omega arith)
 
 returns-2 : tie.Need-returns-2
 returns-2 c =
     let e = c .before .before in
-    rw (policy-whole e, ne-eqb (extent (bytes e) 2 % 4) 0 (λ x. omega arith))
+    rw (policy-whole e, ne-eqb (partLength (bytes e) 2 % 4) 0 (λ x. omega arith))
 
-events-whole : (c : tie.Else2) → let e = c .before .before in eqb (extent (bytes e) 2 % 4) 0 ≡ true
-events-whole c = let e = c .before .before in eq-eqb (extent (bytes e) 2 % 4) 0 (omega arith)
+events-whole : (c : tie.Else2) → let e = c .before .before in eqb (partLength (bytes e) 2 % 4) 0 ≡ true
+events-whole c = let e = c .before .before in eq-eqb (partLength (bytes e) 2 % 4) 0 (omega arith)
 
 returns-3 : tie.Need-returns-3
 returns-3 c =
     let e = c .before .before .before in
-    rw (policy-whole e, events-whole (c .before), lt-leb (extent (bytes e) 2) 1024 (omega arith))
+    rw (policy-whole e, events-whole (c .before), lt-leb (partLength (bytes e) 2) 1024 (omega arith))
 
-extent-of-requires-3 : tie.Need-extent-of-requires-3
-extent-of-requires-3 c κs = search needs
+length-of-requires-3 : tie.Need-length-of-requires-3
+length-of-requires-3 c κs = search needs
 
-events-few : (c : tie.Else3) → let e = c .before .before .before in leb (extent (bytes e) 2) 1024 ≡ true
-events-few c = let e = c .before .before .before in le-leb (extent (bytes e) 2) 1024 (omega arith)
+events-few : (c : tie.Else3) → let e = c .before .before .before in leb (partLength (bytes e) 2) 1024 ≡ true
+events-few c = let e = c .before .before .before in le-leb (partLength (bytes e) 2) 1024 (omega arith)
 
 returns-4 : tie.Need-returns-4
 returns-4 c =
     let g = c .before .before in
     let e = g .before .before .before in
-    rw (policy-whole e, events-whole (g .before), events-few g, lt-leb 2 (extent (bytes e) 1) (omega arith))
+    rw (policy-whole e, events-whole (g .before), events-few g, lt-leb 2 (partLength (bytes e) 1) (omega arith))
 
 returns-5 : tie.Need-returns-5
 returns-5 c =
     let g = c .before .before in
     let e = g .before .before .before in
-    let same : c .before .extent-of3 .result ≡ extent (bytes e) 1 = omega arith in
-    rw (policy-whole e, events-whole (g .before), events-few g, le-leb 2 (extent (bytes e) 1) (omega arith))
+    let same : c .before .length-of3 .result ≡ partLength (bytes e) 1 = omega arith in
+    rw (policy-whole e, events-whole (g .before), events-few g, le-leb 2 (partLength (bytes e) 1) (omega arith))
     (ap (λ (n : ℕ). eqb (n % 2) 0) same)
 
 pub lengths-ok-spec : {M : Type 1} → statement M
 lengths-ok-spec =
     tie.close
     (tie.spec
-    extent-of-requires
+    length-of-requires
     returns
-    extent-of-requires-2
+    length-of-requires-2
     returns-2
     returns-3
-    extent-of-requires-3
+    length-of-requires-3
     returns-4
     returns-5)

@@ -6,8 +6,8 @@ use native.Mathlib.Omega.{arith}
 use borrow.Author.Needs.{needs}
 use lib.ListN.{length, getD, take}
 use lib.Seq.{length-take-le}
-use Rattle.monitor.specs.Instances.{opening}
-use Rattle.casefile.specs.Cases.{wides, halves, policyWords, usersOf, rolesOf, rowsOf}
+use Rattle.monitor.specs.Monitors.{given, opening}
+use Rattle.casefile.specs.Cases.{wides, halves, openingOf}
 use Rattle.casefile.proofs.Laying.{Laid, laid}
 use Rattle.casefile.proofs.cases.open_case.Statement.{statement}
 use Rattle.casefile.proofs.cases.open_case.Tie as tie
@@ -15,8 +15,8 @@ use Rattle.casefile.proofs.cases.open_case.Tie as tie
 layout : (s : tie.Start) → Laid (s .args .bytes .now)
 layout s = laid (s .args .bytes .now) (s .pre)
 
-extent-of-requires : tie.Need-extent-of-requires
-extent-of-requires c κs = let l = layout (c .before) in omega arith
+length-of-requires : tie.Need-length-of-requires
+length-of-requires c κs = let l = layout (c .before) in omega arith
 
 offset-of-requires : tie.Need-offset-of-requires
 offset-of-requires c κs = let l = layout (c .before .before) in omega arith
@@ -30,8 +30,8 @@ fill-words-requires c κs = let l = layout (c .before .before .before .before) i
 offset-of-requires-2 : tie.Need-offset-of-requires-2
 offset-of-requires-2 c κs = let l = layout (c .before .before .before .before .before .before) in omega arith
 
-extent-of-requires-2 : tie.Need-extent-of-requires-2
-extent-of-requires-2 c κs = let l = layout (c .before .before .before .before .before .before .before) in omega arith
+length-of-requires-2 : tie.Need-length-of-requires-2
+length-of-requires-2 c κs = let l = layout (c .before .before .before .before .before .before .before) in omega arith
 
 sub-users : tie.Need-sub-users
 sub-users c = let l = layout (c .before .before .before .before .before .before .before .before) in omega arith
@@ -57,7 +57,7 @@ shared-slice-read-open-2 c = let l = layout (c .before .before .before .before .
 -- the words, of which there are enough
 module _ (c : tie.After-fill-words) where
   abbrev count : ℕ
-  count = c .before .before .before .extent-of .result / 4
+  count = c .before .before .before .length-of .result / 4
 
   abbrev words : List ℕ
   words = c .fill-words .last .1 .1 .1 .0
@@ -65,15 +65,15 @@ module _ (c : tie.After-fill-words) where
   words-enough : count ≤ length words
   words-enough = let l = layout (c .before .before .before .before .before) in omega (arith, c .fill-words .kept .1 .1 .1 .0)
 
-  words-are : take count words ≡ policyWords (c .before .before .before .before .before .args .bytes .now)
+  words-are : take count words ≡ openingOf (c .before .before .before .before .before .args .bytes .now) .words
   words-are =
       let b : List ℕ = c .before .before .before .before .before .args .bytes .now in
-      c .fill-words .ensures ∙ ap₂ (λ (k n : ℕ). wides b k (n / 4)) (c .before .before .offset-of .ensures .0) (c .before .before .before .extent-of .ensures .0)
+      c .fill-words .ensures ∙ ap₂ (λ (k n : ℕ). wides b k (n / 4)) (c .before .before .offset-of .ensures .0) (c .before .before .before .length-of .ensures .0)
 
 -- the rows, of which there are enough
 module _ (c : tie.After-fill-rows) where
   abbrev users : ℕ
-  users = (c .before .before .extent-of2 .result - 2) / 2
+  users = (c .before .before .length-of2 .result - 2) / 2
 
   abbrev rows : List ℕ
   rows = c .fill-rows .last .1 .1 .1 .0
@@ -81,10 +81,10 @@ module _ (c : tie.After-fill-rows) where
   rows-enough : users ≤ length rows
   rows-enough = let l = layout (c .before .before .before .before .before .before .before .before .before .before) in omega (arith, c .fill-rows .kept .1 .1 .1 .0)
 
-  rows-are : take users rows ≡ rowsOf (c .before .before .before .before .before .before .before .before .before .before .args .bytes .now)
+  rows-are : take users rows ≡ openingOf (c .before .before .before .before .before .before .before .before .before .before .args .bytes .now) .rows
   rows-are =
       let b : List ℕ = c .before .before .before .before .before .before .before .before .before .before .args .bytes .now in
-      c .fill-rows .ensures ∙ ap₂ (λ (k n : ℕ). halves b (k + 2) ((n - 2) / 2)) (c .before .before .before .offset-of2 .ensures .0) (c .before .before .extent-of2 .ensures .0)
+      c .fill-rows .ensures ∙ ap₂ (λ (k n : ℕ). halves b (k + 2) ((n - 2) / 2)) (c .before .before .before .offset-of2 .ensures .0) (c .before .before .length-of2 .ensures .0)
 
 array-share-prefix-words : tie.Need-array-share-prefix-words
 array-share-prefix-words c = words-enough (c .before .before .before .before .before .before .before .before)
@@ -107,19 +107,19 @@ returns c =
     let w = r .before .before .before .before .before in
     let b : List ℕ = w .before .before .before .before .before .args .bytes .now in
     c .«open» .ensures
-    ∙ ap (λ (k : ℕ). opening (getD b k 0) (getD b (k + 1) 0) (take (count w) (words w)) (take (users r) (rows r))) (r .before .before .before .offset-of2 .ensures .0)
-    ∙ ap₂ (λ (p g : List ℕ). opening (usersOf b) (rolesOf b) p g) (words-are w) (rows-are r)
+    ∙ ap (λ (k : ℕ). opening (given (getD b k 0) (getD b (k + 1) 0) (take (count w) (words w)) (take (users r) (rows r)))) (r .before .before .before .offset-of2 .ensures .0)
+    ∙ ap₂ (λ (p g : List ℕ). opening (given (openingOf b .users) (openingOf b .roles) p g)) (words-are w) (rows-are r)
 
 pub open-case-spec : {M : Type 1} → statement M
 open-case-spec =
     tie.close
     (tie.spec
-    extent-of-requires
+    length-of-requires
     offset-of-requires
     slice-aggregate-fill-words
     fill-words-requires
     offset-of-requires-2
-    extent-of-requires-2
+    length-of-requires-2
     sub-users
     add-fill-rows
     slice-aggregate-fill-rows

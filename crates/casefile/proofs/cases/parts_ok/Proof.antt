@@ -8,7 +8,7 @@ use borrow.Author.Needs.{needs}
 use borrow.Author.Tests.{eq-eqb, ne-eqb}
 use lib.Dec.{eqb}
 use lib.ListN.{length}
-use Rattle.casefile.specs.Cases.{offset, extent}
+use Rattle.casefile.specs.Cases.{offset, partLength}
 use Rattle.casefile.proofs.cases.parts_ok.Statement.{statement}
 use Rattle.casefile.proofs.cases.parts_ok.Tie as tie
 
@@ -23,8 +23,8 @@ returns c =
 offset-of-requires-2 : tie.Need-offset-of-requires-2
 offset-of-requires-2 c κs = search needs
 
-extent-of-requires : tie.Need-extent-of-requires
-extent-of-requires c κs = search needs
+length-of-requires : tie.Need-length-of-requires
+length-of-requires c κs = search needs
 
 add-if2 : tie.Need-add-if2
 add-if2 c = omega arith
@@ -37,30 +37,30 @@ returns-2 : tie.Need-returns-2
 returns-2 c =
     let e = c .before .before .before in
     let b : List ℕ = e .before .before .before .args .bytes .now in
-    rw (policy-begins e, ne-eqb (offset b 1) (offset b 0 + extent b 0) (λ x. omega arith))
+    rw (policy-begins e, ne-eqb (offset b 1) (offset b 0 + partLength b 0) (λ x. omega arith))
 
 offset-of-requires-3 : tie.Need-offset-of-requires-3
 offset-of-requires-3 c κs = search needs
 
-extent-of-requires-2 : tie.Need-extent-of-requires-2
-extent-of-requires-2 c κs = search needs
+length-of-requires-2 : tie.Need-length-of-requires-2
+length-of-requires-2 c κs = search needs
 
 add-if3 : tie.Need-add-if3
 add-if3 c = omega arith
 
-grants-begin : (c : tie.Else2) → let b = c .before .before .before .before .before .before .args .bytes .now in eqb (offset b 1) (offset b 0 + extent b 0) ≡ true
+grants-begin : (c : tie.Else2) → let b = c .before .before .before .before .before .before .args .bytes .now in eqb (offset b 1) (offset b 0 + partLength b 0) ≡ true
 grants-begin c =
     let b : List ℕ = c .before .before .before .before .before .before .args .bytes .now in
-    eq-eqb (offset b 1) (offset b 0 + extent b 0) (omega arith)
+    eq-eqb (offset b 1) (offset b 0 + partLength b 0) (omega arith)
 
 returns-3 : tie.Need-returns-3
 returns-3 c =
     let e = c .before .before .before in
     let b : List ℕ = e .before .before .before .before .before .before .args .bytes .now in
-    rw (policy-begins (e .before .before .before), grants-begin e, ne-eqb (offset b 2) (offset b 1 + extent b 1) (λ x. omega arith))
+    rw (policy-begins (e .before .before .before), grants-begin e, ne-eqb (offset b 2) (offset b 1 + partLength b 1) (λ x. omega arith))
 
-extent-of-requires-3 : tie.Need-extent-of-requires-3
-extent-of-requires-3 c κs = search needs
+length-of-requires-3 : tie.Need-length-of-requires-3
+length-of-requires-3 c κs = search needs
 
 add-result : tie.Need-add-result
 add-result c = omega arith
@@ -69,8 +69,8 @@ returns-4 : tie.Need-returns-4
 returns-4 c =
     let e = c .before .before .before .before in
     let b : List ℕ = e .before .before .before .before .before .before .args .bytes .now in
-    let same : c .before .before .before .offset-of3 .result + c .extent-of3 .result ≡ offset b 2 + extent b 2 = omega arith in
-    rw (policy-begins (e .before .before .before), grants-begin e, eq-eqb (offset b 2) (offset b 1 + extent b 1) (omega arith))
+    let same : c .before .before .before .offset-of3 .result + c .length-of3 .result ≡ offset b 2 + partLength b 2 = omega arith in
+    rw (policy-begins (e .before .before .before), grants-begin e, eq-eqb (offset b 2) (offset b 1 + partLength b 1) (omega arith))
     (ap (λ (n : ℕ). eqb (length b) n) same)
 
 pub parts-ok-spec : {M : Type 1} → statement M
@@ -80,13 +80,13 @@ parts-ok-spec =
     offset-of-requires
     returns
     offset-of-requires-2
-    extent-of-requires
+    length-of-requires
     add-if2
     returns-2
     offset-of-requires-3
-    extent-of-requires-2
+    length-of-requires-2
     add-if3
     returns-3
-    extent-of-requires-3
+    length-of-requires-3
     add-result
     returns-4)

@@ -1,32 +1,33 @@
--- The loop keeps that the output holds the lines of the first i events, and that the instance is the one after them.
+-- The loop keeps that the output holds the lines of the first i events, and that the monitor is the one after them.
 use mathlib.Core.Path.{_≡_, refl, sym, ap, ap₂, _∙_}
 use mathlib.Core.Bool.{So}
 use mathlib.Core.List.{List, [], _++_}
 use Prim.Native.Nat.{ℕ, _+_, _-_, _*_, _/_, _≤_}
 use native.Mathlib.Omega.{arith}
 use lib.ListN.{length, length-append}
-use Rattle.monitor.specs.declared.Instance.{Instance}
-use Rattle.monitor.specs.Instances.{wellFormed}
-use Rattle.monitor.specs.Events.{eventInstance}
+use Rattle.monitor.specs.declared.Monitor.{Monitor}
+use Rattle.monitor.specs.Monitors.{wellFormed}
+use Rattle.monitor.specs.Events.{eventMonitor}
+use Rattle.monitor.specs.Runs.{run, taken}
 use Rattle.monitor.proofs.Formed.{formed}
 use Rattle.casefile.specs.Cases.{wides, eventWords}
-use Rattle.casefile.specs.Texts.{takenText, eventLines, after, actionsTaken, runText}
-use Rattle.casefile.specs.Calls.{HasRoom, Put}
+use Rattle.casefile.specs.Texts.{takenText, caseRun, stepLines, runText}
+use Rattle.casefile.specs.Private.{HasRoom, Put}
 use Rattle.casefile.proofs.Laying.{Laid, laid}
 use Rattle.casefile.proofs.Decimals.{taken-length}
 use Rattle.casefile.proofs.Writing.{put-behind, room-behind, put-length}
-use Rattle.casefile.proofs.Growing.{lineOf, after-more, lines-more, lines-bound, line-short}
+use Rattle.casefile.proofs.Growing.{lineOf, linesOf, after, after-more, lines-more, lines-bound, line-short}
 use Rattle.casefile.proofs.Taken.{taken-is-final}
 use Rattle.casefile.proofs.runs.run.Statement.{statement}
 use Rattle.casefile.proofs.runs.run.Tie as tie
 
--- after i of the events from a place of the bytes on: the instance j, and the output with its next place
-record Running (bytes out : List ℕ) (from count : ℕ) (first : Instance) (left room : List ℕ) (j : Instance) (at i : ℕ) : Type 0 where
+-- after i of the events from a place of the bytes on: the monitor j, and the output with its next place
+record Running (bytes out : List ℕ) (from count : ℕ) (first : Monitor) (left room : List ℕ) (j : Monitor) (at i : ℕ) : Type 0 where
   within : i ≤ count
   size : length room ≡ 8192
   isFormed : So (wellFormed j)
   same : j ≡ after first (wides bytes from i)
-  lines : Put out 0 (eventLines first 1 (wides bytes from i)) at left
+  lines : Put out 0 (linesOf first 1 (wides bytes from i)) at left
 
 abbrev Inv-loop : tie.InvT-loop
 Inv-loop bytes out₀ from count workspace₀ current₀ at₀ i₀ out workspace current at i = Running bytes out₀ from count current₀ out workspace current at i
@@ -40,11 +41,11 @@ layout s = laid (s .args .bytes .now) (s .pre .case)
 offset-of-requires : tie.Need-offset-of-requires Inv-loop μ-loop
 offset-of-requires c κs = let l = layout (c .before .before) in omega arith
 
-extent-of-requires : tie.Need-extent-of-requires Inv-loop μ-loop
-extent-of-requires c κs = let l = layout (c .before .before .before) in omega arith
+length-of-requires : tie.Need-length-of-requires Inv-loop μ-loop
+length-of-requires c κs = let l = layout (c .before .before .before) in omega arith
 
 loop-holds : tie.Need-loop-holds Inv-loop μ-loop
-unfolding eventLines after
+unfolding run stepLines
 loop-holds c = record {
   within = omega arith;
   size = refl;
@@ -65,13 +66,13 @@ module _ (m : tie.At-loop Inv-loop μ-loop) where
   from = m .before .before .offset-of .result
 
   abbrev count : ℕ
-  count = m .before .extent-of .result / 4
+  count = m .before .length-of .result / 4
 
   abbrev words : List ℕ
   words = wides bytes from (m .loop .i)
 
   abbrev text : List ℕ
-  text = eventLines (start .args .instance) 1 words
+  text = linesOf (start .args .monitor) 1 words
 
   few : count ≤ 256
   few = let l = layout start in omega arith
@@ -80,7 +81,7 @@ module _ (m : tie.At-loop Inv-loop μ-loop) where
   inside = let l = layout start in omega arith
 
   short : length text ≤ 9 * m .loop .i
-  short = lines-bound (start .args .instance) bytes from (m .loop .i)
+  short = lines-bound (start .args .monitor) bytes from (m .loop .i)
 
   -- a text of nine bytes more fits
   fits : (t : List ℕ) → length t ≤ 9 → HasRoom (start .args .out .now) 0 (text ++ t)
@@ -125,49 +126,53 @@ loop-again c =
     let w = s .before .before .before in
     let m = w .before .before in
     let i = m .loop .i in
-    let first = start m .args .instance in
+    let first = start m .args .monitor in
     let here : m .loop .current ≡ after first (words m) = m .loop .inv .same in
     let line : List ℕ = lineOf (m .loop .current) (i + 1) (w .wide-at .result) in
-    let grown : text m ++ line ≡ eventLines first 1 (wides (bytes m) (from m) (i + 1)) =
-    ap₂ (λ (j : Instance) (v : ℕ). text m ++ lineOf j (i + 1) v) here (w .wide-at .ensures) ∙ sym (lines-more first (bytes m) (from m) i) in
+    let grown : text m ++ line ≡ linesOf first 1 (wides (bytes m) (from m) (i + 1)) =
+    ap₂ (λ (j : Monitor) (v : ℕ). text m ++ lineOf j (i + 1) v) here (w .wide-at .ensures) ∙ sym (lines-more first (bytes m) (from m) i) in
     record {
       within = omega arith;
       size = s .step .kept .1 .1 .1 .1 .1 .0 ∙ m .loop .inv .size;
       isFormed = s .step .ensures .isFormed;
-      same = s .step .ensures .same ∙ ap₂ (λ (j : Instance) (v : ℕ). eventInstance j v 8192) here (w .wide-at .ensures) ∙ sym (after-more first (bytes m) (from m) i);
+      same = s .step .ensures .same ∙ ap₂ (λ (j : Monitor) (v : ℕ). eventMonitor j v 8192) here (w .wide-at .ensures) ∙ sym (after-more first (bytes m) (from m) i);
       lines = rw grown at (put-behind (m .loop .inv .lines) line (fits m line (line-short (m .loop .current) (i + 1) (w .wide-at .result))) (s .step .ensures .line));
     }
 
 -- after the loop
 module _ (e : tie.After-loop Inv-loop μ-loop) where
-  taken-short : length (takenText (e .before .loop .current .taken)) ≤ 9
-  taken-short = let f = formed (e .before .loop .current) (e .before .loop .inv .isFormed) in taken-length (e .before .loop .current .taken) (omega (arith, f .taken-most))
+  taken-short : length (takenText (e .before .loop .current .instance .taken)) ≤ 9
+  taken-short = let f = formed (e .before .loop .current) (e .before .loop .inv .isFormed) in taken-length (e .before .loop .current .instance .taken) (omega (arith, f .in-instance .taken-most))
 
   all-events : words (e .before) ≡ eventWords (bytes (e .before))
   all-events =
       let m = e .before in
       let last : m .loop .i ≡ count m = omega (arith, m .loop .inv .within, e .loop-test .left) in
-      ap₂ (λ (k n : ℕ). wides (bytes m) k n) (m .before .before .offset-of .ensures .0) (last ∙ ap (λ (n : ℕ). n / 4) (m .before .extent-of .ensures .0))
+      ap₂ (λ (k n : ℕ). wides (bytes m) k n) (m .before .before .offset-of .ensures .0) (last ∙ ap (λ (n : ℕ). n / 4) (m .before .length-of .ensures .0))
+
+-- the loop's end
+abbrev ended : tie.After-put-taken Inv-loop μ-loop → tie.After-loop Inv-loop μ-loop
+ended p = p .before .before .before
 
 put-taken-requires : tie.Need-put-taken-requires Inv-loop μ-loop
 put-taken-requires c κs =
-    let e = c .before in
+    let e = c .before .before in
     let m = e .before in
-    let t : List ℕ = takenText (m .loop .current .taken) in
+    let t : List ℕ = takenText (m .loop .current .instance .taken) in
     room-behind (m .loop .inv .lines) t (fits m t (taken-short e))
 
 same-length : tie.Need-same-length Inv-loop μ-loop
-same-length c = let p = c .before .before in p .put-taken .kept .0 ∙ as-long (p .before .before .before)
+same-length c = let p = c .before .before in p .put-taken .kept .0 ∙ as-long (ended p .before)
 
 returns : tie.Need-returns Inv-loop μ-loop
 unfolding runText
 returns c =
     let p = c .before .before in
-    let e = p .before .before in
+    let e = ended p in
     let m = e .before in
-    let first = start m .args .instance in
-    let n : m .loop .current .taken ≡ actionsTaken first (words m) = ap (λ (j : Instance). j .taken) (m .loop .inv .same) ∙ sym (taken-is-final first (words m) (start m .pre .none)) in
-    let t : List ℕ = takenText (m .loop .current .taken) in
+    let first = start m .args .monitor in
+    let n : m .loop .current .instance .taken ≡ taken (caseRun first (words m)) = ap (λ (j : Monitor). j .instance .taken) (m .loop .inv .same) ∙ sym (taken-is-final first (words m) (λ k. 8192) (start m .pre .none)) in
+    let t : List ℕ = takenText (m .loop .current .instance .taken) in
     rw (← all-events e, ← n) (put-behind (m .loop .inv .lines) t (fits m t (taken-short e)) (p .put-taken .ensures))
 
 pub run-spec : {M : Type 1} → statement M
@@ -177,7 +182,7 @@ run-spec =
     Inv-loop
     μ-loop
     offset-of-requires
-    extent-of-requires
+    length-of-requires
     loop-holds
     mul-wide-at
     add-wide-at

@@ -1,17 +1,17 @@
--- The event call gives the number and the instance; that instance is well formed again, so that the status call gives its letter.
+-- The event call gives the number and the monitor, and the status call on that monitor the letter.
 use mathlib.Core.Path.{_≡_, sym, ap, ap₂, subst, _∙_}
 use mathlib.Core.Bool.{So}
 use Prim.Native.Nat.{ℕ, _≤_}
 use native.Mathlib.Omega.{arith}
 use borrow.Author.Needs.{needs}
 use lib.ListN.{length}
-use Rattle.monitor.specs.declared.Instance.{Instance}
-use Rattle.monitor.specs.Instances.{wellFormed}
-use Rattle.monitor.specs.Events.{Outcome, outcome, eventCode, eventInstance}
-use Rattle.monitor.specs.Statuses.{standing, letter}
+use Rattle.monitor.specs.declared.Monitor.{Monitor}
+use Rattle.monitor.specs.Monitors.{wellFormed}
+use Rattle.monitor.specs.Events.{Outcome, outcome, eventCode, eventMonitor}
+use Rattle.monitor.specs.Statuses.{StatusOutcome, statusLetter, statusOf}
 use Rattle.monitor.proofs.Loops.{length-mapped}
 use Rattle.casefile.specs.Texts.{lineText}
-use Rattle.casefile.proofs.Keeping.{left-formed, status-given}
+use Rattle.casefile.proofs.Keeping.{left-formed}
 use Rattle.casefile.proofs.Growing.{lineOf, line-short}
 use Rattle.casefile.proofs.runs.step.Statement.{statement}
 use Rattle.casefile.proofs.runs.step.Tie as tie
@@ -24,8 +24,8 @@ module _ (c : tie.After-event) where
   abbrev start : tie.Start
   start = c .before .before .before .before
 
-  abbrev before : Instance
-  before = start .args .instance
+  abbrev before : Monitor
+  before = start .args .monitor
 
   abbrev word : ℕ
   word = start .args .word
@@ -34,15 +34,15 @@ module _ (c : tie.After-event) where
   unfolding outcome
   number = ap (λ (o : Outcome). o .code) (c .event .ensures) ∙ ap (λ (n : ℕ). eventCode before word n) (start .pre .size)
 
-  left : c .event .result .instance ≡ eventInstance before word 8192
+  left : c .event .result .monitor ≡ eventMonitor before word 8192
   unfolding outcome
-  left = ap (λ (o : Outcome). o .instance) (c .event .ensures) ∙ ap (λ (n : ℕ). eventInstance before word n) (start .pre .size)
+  left = ap (λ (o : Outcome). o .monitor) (c .event .ensures) ∙ ap (λ (n : ℕ). eventMonitor before word n) (start .pre .size)
 
-  places : length (before .actions) ≡ 12
+  places : length (before .instance .actions) ≡ 12
   places = search (needs, length-mapped)
 
-  formed : So (wellFormed (c .event .result .instance))
-  formed = subst (λ (i : Instance). So (wellFormed i)) (sym (ap (λ (o : Outcome). o .instance) (c .event .ensures)))
+  formed : So (wellFormed (c .event .result .monitor))
+  formed = subst (λ (i : Monitor). So (wellFormed i)) (sym (ap (λ (o : Outcome). o .monitor) (c .event .ensures)))
       (left-formed before word (start .args .workspace .now) places (start .pre .isFormed))
 
   room : length (c .event .last .1 .1 .0) ≡ 8192
@@ -59,11 +59,11 @@ module _ (c : tie.After-letter-of) where
   abbrev called : tie.After-event
   called = c .before .before .before .before .before .before .before .before .before
 
-  status : c .letter-of .result ≡ letter (standing (eventInstance (before called) (word called) 8192))
+  status : c .letter-of .result ≡ statusLetter (eventMonitor (before called) (word called) 8192) 8192
+  unfolding statusOf
   status =
       let s = c .before .before .before .before in
-      c .letter-of .ensures
-      ∙ ap letter (s .status .ensures .0 ∙ status-given (called .event .result .instance) (called .event .last .1 .1 .0) (room called) (formed called) ∙ ap standing (left called))
+      c .letter-of .ensures ∙ ap (λ (o : StatusOutcome). o .letter) (s .status .ensures) ∙ ap₂ (λ (j : Monitor) (n : ℕ). statusLetter j n) (left called) (room called)
 
   line : lineText (start called .args .place) (called .event .result .code) (c .letter-of .result) ≡ lineOf (before called) (start called .args .place) (word called)
   line = ap₂ (λ (k l : ℕ). lineText (start called .args .place) k l) (number called) status
@@ -71,7 +71,7 @@ module _ (c : tie.After-letter-of) where
 put-line-requires : tie.Need-put-line-requires
 put-line-requires c κs =
     let s = start (called c) in
-    let short : length (lineOf (s .args .instance) (s .args .place) (s .args .word)) ≤ 9 = line-short (s .args .instance) (s .args .place) (s .args .word) in
+    let short : length (lineOf (s .args .monitor) (s .args .place) (s .args .word)) ≤ 9 = line-short (s .args .monitor) (s .args .place) (s .args .word) in
     rw (line c) (omega (arith, s .pre .fits))
 
 same-length : tie.Need-same-length

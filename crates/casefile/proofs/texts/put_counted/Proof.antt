@@ -3,7 +3,7 @@ use mathlib.Core.List.{List, [], _∷_, _++_}
 use Prim.Native.Nat.{ℕ}
 use borrow.Author.Needs.{needs}
 use Rattle.casefile.specs.Texts.{decimal}
-use Rattle.casefile.specs.Calls.{HasRoom}
+use Rattle.casefile.specs.Private.{HasRoom}
 use Rattle.casefile.proofs.Writing.{room-first, room-behind, put-behind}
 use Rattle.casefile.proofs.texts.put_counted.Statement.{statement}
 use Rattle.casefile.proofs.texts.put_counted.Tie as tie

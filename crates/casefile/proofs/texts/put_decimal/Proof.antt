@@ -5,7 +5,7 @@ use Prim.Native.Nat.{ℕ, _/_}
 use native.Mathlib.Omega.{arith}
 use borrow.Author.Needs.{needs}
 use Rattle.casefile.specs.Texts.{digit, decimal}
-use Rattle.casefile.specs.Calls.{HasRoom, Put}
+use Rattle.casefile.specs.Private.{HasRoom, Put}
 use Rattle.casefile.proofs.Decimals.{one-digit, two-digits, three-digits}
 use Rattle.casefile.proofs.Writing.{room-behind, put-behind}
 use Rattle.casefile.proofs.texts.put_decimal.Statement.{statement}

@@ -4,7 +4,7 @@ use mathlib.Core.List.{List, [], _∷_, _++_, append-assoc}
 use Prim.Native.Nat.{ℕ}
 use borrow.Author.Needs.{needs}
 use Rattle.casefile.specs.Texts.{decimal, lineText}
-use Rattle.casefile.specs.Calls.{HasRoom}
+use Rattle.casefile.specs.Private.{HasRoom}
 use Rattle.casefile.proofs.Writing.{room-first, room-behind, put-behind}
 use Rattle.casefile.proofs.texts.put_line.Statement.{statement}
 use Rattle.casefile.proofs.texts.put_line.Tie as tie

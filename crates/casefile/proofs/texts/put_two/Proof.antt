@@ -3,7 +3,7 @@ use mathlib.Core.List.{[], _∷_}
 use Prim.Native.Nat.{_/_}
 use borrow.Author.Needs.{needs}
 use Rattle.casefile.specs.Texts.{digit}
-use Rattle.casefile.specs.Calls.{Put}
+use Rattle.casefile.specs.Private.{Put}
 use Rattle.casefile.proofs.Writing.{put-behind}
 use Rattle.casefile.proofs.texts.put_two.Statement.{statement}
 use Rattle.casefile.proofs.texts.put_two.Tie as tie

@@ -1,6 +1,6 @@
 -- Each return rewrites the definition with what the callees said.
 use borrow.Author.Needs.{needs}
-use Rattle.monitor.proofs.Tests.{failed, passed}
+use Rattle.monitor.proofs.Results.{failed, passed}
 use Rattle.monitor.proofs.Instance.is_tidy.Statement.{statement}
 use Rattle.monitor.proofs.Instance.is_tidy.Tie as tie
 
@@ -13,29 +13,16 @@ zero-words-requires c κs = search needs
 returns : tie.Need-returns
 returns c = simp (failed (c .before .zero-words .ensures) (c .if1 .taken))
 
-cast-zero-rows : tie.Need-cast-zero-rows
-cast-zero-rows c = search needs
-
-zero-rows-requires : tie.Need-zero-rows-requires
-zero-rows-requires c κs = search needs
-
-returns-2 : tie.Need-returns-2
-returns-2 c =
-    let c₁ = c .before .before .before .before in
-    simp (passed (c₁ .before .zero-words .ensures) (c₁ .if1 .left), failed (c .before .zero-rows .ensures) (c .if2 .taken))
-
 cast-idle-actions : tie.Need-cast-idle-actions
 cast-idle-actions c = search needs
 
 idle-actions-requires : tie.Need-idle-actions-requires
 idle-actions-requires c κs = search needs
 
-returns-3 : tie.Need-returns-3
-returns-3 c =
-    let c₂ = c .before .before .before in
-    let c₁ = c₂ .before .before .before .before in
-    simp (passed (c₁ .before .zero-words .ensures) (c₁ .if1 .left), passed (c₂ .before .zero-rows .ensures) (c₂ .if2 .left))
-    (c .idle-actions .ensures)
+returns-2 : tie.Need-returns-2
+returns-2 c =
+    let c₁ = c .before .before .before in
+    simp (passed (c₁ .before .zero-words .ensures) (c₁ .if1 .left)) (c .idle-actions .ensures)
 
 pub is-tidy-spec : {M : Type 1} → statement M
 is-tidy-spec =
@@ -44,9 +31,6 @@ is-tidy-spec =
     cast-zero-words
     zero-words-requires
     returns
-    cast-zero-rows
-    zero-rows-requires
-    returns-2
     cast-idle-actions
     idle-actions-requires
-    returns-3)
+    returns-2)

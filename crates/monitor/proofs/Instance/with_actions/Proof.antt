@@ -4,7 +4,7 @@ use Prim.Native.Nat.{suc, _+_, _-_, _≤_}
 use native.Mathlib.Omega.{arith}
 use borrow.Author.Needs.{needs}
 use lib.ListN.{replicate}
-use Rattle.monitor.specs.Calls.{adding}
+use Rattle.monitor.specs.Private.{adding}
 use Rattle.monitor.proofs.Instance.with_actions.Statement.{statement}
 use Rattle.monitor.proofs.Instance.with_actions.Tie as tie
 

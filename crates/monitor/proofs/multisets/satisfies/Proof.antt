@@ -1,4 +1,4 @@
--- The refusals in order; behind them the opened instance with the multiset's actions is judged.
+-- The refusals in order; behind them the opened instance with the multiset's actions is evaluated.
 use mathlib.Core.Path.{_≡_, sym, ap, _∙_}
 use mathlib.Core.Bool.{true, false}
 use mathlib.Core.List.{map}
@@ -9,153 +9,173 @@ use borrow.Author.Tests.{lt-ltb, le-ltb, eq-eqb, ne-eqb}
 use lib.Dec.{ltb}
 use lib.ListN.{length, drop}
 use Rattle.soda.specs.Lists.{all}
-use Rattle.policy.specs.Words.{decode, termOf}
+use Rattle.soda.specs.Tables.{satisfied}
+use Rattle.policy.specs.Codes.{MALFORMED, FULL, WORKSPACE}
 use Rattle.workspace.specs.Workspace.{filled}
 use Rattle.monitor.specs.declared.Answer.{Answer}
-use Rattle.monitor.specs.Instances.{isZero, openCode, fresh, opening}
-use Rattle.monitor.specs.Events.{satisfies}
+use Rattle.monitor.specs.Configurations.{isZero}
+use Rattle.monitor.specs.Monitors.{Opening, given, policy, openCode, fresh}
 use Rattle.monitor.specs.MultisetTest.{total, listed, notedBy, testRefusals, testCode}
+use Rattle.monitor.proofs.Opening.{opened-fresh}
 use Rattle.monitor.proofs.Formed.{words-few, opens-read}
 use Rattle.monitor.proofs.Adding.{total-zero}
-use Rattle.monitor.proofs.Testing.{counted, of-counted, fillable-counted, code-opening, code-own, refused-test, judged-test}
+use Rattle.monitor.proofs.Counted.{counted, of-counted, fillable-counted, code-opening, code-own, refused-test, yes-test, no-test}
 use Rattle.monitor.proofs.multisets.satisfies.Statement.{statement}
 use Rattle.monitor.proofs.multisets.satisfies.Tie as tie
 
 counts-length : (s : tie.Start) → length (s .args .counts) ≡ 16
 counts-length s = search needs
 
+-- what the test is given
+abbrev asked : tie.Start → Opening
+asked s = given (s .args .users) (s .args .roles) (s .args .words .now) (s .args .rows .now)
+
 -- ── 12 ──
 returns : tie.Need-returns
 unfolding testRefusals
 returns c =
-    let a = c .before .before .before .before .args in
-    refused-test (a .users) (a .roles) (a .words .now) (a .rows .now) (a .counts) (a .workspace .now) 12 (omega arith)
-    (rw (lt-ltb (length (a .workspace .now)) 8192 (c .if1 .taken)))
+    let s = c .before .before .before .before in
+    refused-test (asked s) (s .args .counts) (s .args .workspace .now) WORKSPACE (omega arith) (rw (lt-ltb (length (s .args .workspace .now)) 8192 (c .if1 .taken)))
 
-long : (c : tie.Else1) → ltb (length (c .before .before .before .before .args .workspace .now)) 8192 ≡ false
-long c = le-ltb (length (c .before .before .before .before .args .workspace .now)) 8192 (c .if1 .left)
+module _ (e : tie.Else1) where
+  abbrev start : tie.Start
+  start = e .before .before .before .before
 
--- ── the opening's numbers ──
+  long : ltb (length (start .args .workspace .now)) 8192 ≡ false
+  long = le-ltb (length (start .args .workspace .now)) 8192 (e .if1 .left)
+
 open-requires : tie.Need-open-requires
 open-requires c κs = search needs
 
-opened-code : (c : tie.After-open) → let a = c .before .before .before .before .before .args in
-    c .«open» .result .code ≡ openCode (a .users) (a .roles) (a .words .now) (a .rows .now)
-unfolding opening
+-- ── the opening's numbers ──
+opened-code : (c : tie.After-open) → c .«open» .result .code ≡ openCode (asked (start (c .before)))
 opened-code c = ap (λ (x : Answer). x .code) (c .«open» .ensures)
 
 returns-2 : tie.Need-returns-2
 returns-2 c =
     let o = c .before in
-    let a = o .before .before .before .before .before .args in
-    refused-test (a .users) (a .roles) (a .words .now) (a .rows .now) (a .counts) (a .workspace .now) (o .«open» .result .code) (c .if2 .taken)
-    (code-opening (a .users) (a .roles) (a .words .now) (a .rows .now) (a .counts) (a .workspace .now) (long (o .before)) (λ z. c .if2 .taken (opened-code o ∙ z))
-    ∙ sym (opened-code o))
+    let s = start (o .before) in
+    refused-test (asked s) (s .args .counts) (s .args .workspace .now) (o .«open» .result .code) (c .if2 .taken)
+    (code-opening (asked s) (s .args .counts) (s .args .workspace .now) (long (o .before)) (λ z. c .if2 .taken (opened-code o ∙ z)) ∙ sym (opened-code o))
 
-accepted : (c : tie.Else2) → let a = c .before .before .before .before .before .before .args in openCode (a .users) (a .roles) (a .words .now) (a .rows .now) ≡ 0
-accepted c = sym (opened-code (c .before)) ∙ c .if2 .left
+module _ (e : tie.Else2) where
+  abbrev begun : tie.Start
+  begun = start (e .before .before)
 
-opened-instance : (c : tie.Else2) → let a = c .before .before .before .before .before .before .args in
-    c .before .«open» .result .instance ≡ fresh (a .users) (a .roles) (a .words .now) (a .rows .now)
-unfolding opening
-opened-instance c = ap (λ (x : Answer). x .instance) (c .before .«open» .ensures) ∙ rw (accepted c)
+  accepted : openCode (asked begun) ≡ 0
+  accepted = sym (opened-code (e .before)) ∙ e .if2 .left
 
--- ── 7 ──
+  opened-monitor : e .before .«open» .result .monitor ≡ fresh (asked begun)
+  opened-monitor = ap (λ (x : Answer). x .monitor) (e .before .«open» .ensures) ∙ opened-fresh (asked begun) accepted
+
 total-from-requires : tie.Need-total-from-requires
 total-from-requires c κs = search needs
 
+-- ── 7 ──
 returns-3 : tie.Need-returns-3
 returns-3 c =
     let t = c .before in
     let o = t .before in
-    let a = o .before .before .before .before .before .before .args in
-    let undeclared : all isZero (drop (a .users) (a .counts)) ≡ false = total-zero (drop (a .users) (a .counts)) ∙ ne-eqb (total (drop (a .users) (a .counts))) 0 (λ z. c .if3 .taken (t .total-from .ensures ∙ z)) in
-    refused-test (a .users) (a .roles) (a .words .now) (a .rows .now) (a .counts) (a .workspace .now) 7 (omega arith)
-    (code-own (a .users) (a .roles) (a .words .now) (a .rows .now) (a .counts) (a .workspace .now) (long (o .before .before)) (accepted o) ∙ rw undeclared)
+    let s = begun o in
+    let rest = drop (s .args .users) (s .args .counts) in
+    let undeclared : all isZero rest ≡ false = total-zero rest ∙ ne-eqb (total rest) 0 (λ z. c .if3 .taken (t .total-from .ensures ∙ z)) in
+    refused-test (asked s) (s .args .counts) (s .args .workspace .now) MALFORMED (omega arith)
+    (code-own (asked s) (s .args .counts) (s .args .workspace .now) (long (o .before .before)) (accepted o) ∙ rw undeclared)
 
-declared : (c : tie.Else3) → let a = c .before .before .before .before .before .before .before .before .args in all isZero (drop (a .users) (a .counts)) ≡ true
-declared c =
-    let a = c .before .before .before .before .before .before .before .before .args in
-    total-zero (drop (a .users) (a .counts)) ∙ eq-eqb (total (drop (a .users) (a .counts))) 0 (sym (c .before .total-from .ensures) ∙ c .if3 .left)
+module _ (e : tie.Else3) where
+  abbrev past-opening : tie.Else2
+  past-opening = e .before .before
 
--- ── 8 ──
+  declared : let s = begun past-opening in all isZero (drop (s .args .users) (s .args .counts)) ≡ true
+  declared =
+      let s = begun past-opening in
+      let rest = drop (s .args .users) (s .args .counts) in
+      total-zero rest ∙ eq-eqb (total rest) 0 (sym (e .before .total-from .ensures) ∙ e .if3 .left)
+
 total-from-requires-2 : tie.Need-total-from-requires-2
 total-from-requires-2 c κs = search needs
 
+-- ── 8 ──
 returns-4 : tie.Need-returns-4
 returns-4 c =
     let d = c .before .before in
-    let o = d .before .before in
-    let a = o .before .before .before .before .before .before .args in
-    refused-test (a .users) (a .roles) (a .words .now) (a .rows .now) (a .counts) (a .workspace .now) 8 (omega arith)
-    (code-own (a .users) (a .roles) (a .words .now) (a .rows .now) (a .counts) (a .workspace .now) (long (o .before .before)) (accepted o)
-    ∙ rw (declared d, lt-ltb 12 (total (a .counts)) (omega (arith, c .if4 .taken, c .before .total-from2 .ensures))))
+    let o = past-opening d in
+    let s = begun o in
+    refused-test (asked s) (s .args .counts) (s .args .workspace .now) FULL (omega arith)
+    (code-own (asked s) (s .args .counts) (s .args .workspace .now) (long (o .before .before)) (accepted o)
+    ∙ rw (declared d, lt-ltb 12 (total (s .args .counts)) (omega (arith, c .if4 .taken, c .before .total-from2 .ensures))))
 
 -- ── none of them ──
-few : (c : tie.Else4) → total (c .before .before .before .before .before .before .before .before .before .before .args .counts) ≤ 12
-few c = omega (arith, c .if4 .left, c .before .total-from2 .ensures)
+module _ (e : tie.Else4) where
+  abbrev names-declared : tie.Else3
+  names-declared = e .before .before
 
-no-refusal : (c : tie.Else4) → let a = c .before .before .before .before .before .before .before .before .before .before .args in
-    testCode (a .users) (a .roles) (a .words .now) (a .rows .now) (a .counts) (length (a .workspace .now)) ≡ 0
-no-refusal c =
-    let d = c .before .before in
-    let o = d .before .before in
-    let a = o .before .before .before .before .before .before .args in
-    code-own (a .users) (a .roles) (a .words .now) (a .rows .now) (a .counts) (a .workspace .now) (long (o .before .before)) (accepted o)
-    ∙ rw (declared d, le-ltb 12 (total (a .counts)) (few c))
+  abbrev opened-there : tie.Else2
+  opened-there = past-opening names-declared
+
+  abbrev from : tie.Start
+  from = begun opened-there
+
+  few : total (from .args .counts) ≤ 12
+  few = omega (arith, e .if4 .left, e .before .total-from2 .ensures)
+
+  no-refusal : testCode (asked from) (from .args .counts) (length (from .args .workspace .now)) ≡ 0
+  no-refusal =
+      code-own (asked from) (from .args .counts) (from .args .workspace .now) (long (opened-there .before .before)) (accepted opened-there)
+      ∙ rw (declared names-declared, le-ltb 12 (total (from .args .counts)) few)
 
 with-multiset-requires : tie.Need-with-multiset-requires
 unfolding fresh
 with-multiset-requires c κs =
-    let f = c .before in
-    let o = f .before .before .before .before in
-    let a = o .before .before .before .before .before .before .args in
-    rw (opened-instance o) (words-few (a .words .now) (opens-read (a .users) (a .roles) (a .words .now) (a .rows .now) (accepted o)), omega (arith, few f))
+    let e = c .before .before .before in
+    let o = opened-there e in
+    rw (opened-monitor o) (words-few (from e .args .words .now) (opens-read (asked (from e)) (accepted o)), omega (arith, few e))
 
 -- the instance with the multiset's actions
-is-counted : (c : tie.After-with-multiset) → let a = c .before .before .before .before .before .before .before .before .before .before .before .before .args in
-    c .with-multiset .result ≡ counted (a .users) (a .roles) (a .words .now) (a .rows .now) (a .counts)
-is-counted c = rw (opened-instance (c .before .before .before .before .before .before)) at (c .with-multiset .ensures)
+module _ (c : tie.After-with-multiset) where
+  abbrev passed-all : tie.Else4
+  passed-all = c .before .before .before .before
 
-judge-requires : tie.Need-judge-requires
-judge-requires c κs =
+  abbrev given-there : tie.Start
+  given-there = from passed-all
+
+  is-counted : c .with-multiset .result ≡ counted (asked given-there) (given-there .args .counts)
+  unfolding fresh
+  is-counted = rw (opened-monitor (opened-there passed-all)) at (c .with-multiset .ensures)
+
+evaluate-requires : tie.Need-evaluate-requires
+evaluate-requires c κs =
     let m = c .before in
-    let f = m .before .before in
-    let o = f .before .before .before .before in
-    let s = o .before .before .before .before .before .before in
-    let a = s .args in
+    let o = opened-there (passed-all m) in
+    let s = given-there m in
     rw (is-counted m)
-    (fillable-counted (a .users) (a .roles) (a .words .now) (a .rows .now) (a .counts) (few f) (a .workspace .now)
-    (opens-read (a .users) (a .roles) (a .words .now) (a .rows .now) (accepted o)) (counts-length s) (o .before .before .if1 .left))
+    (fillable-counted (asked s) (s .args .counts) (few (passed-all m)) (s .args .workspace .now) (opens-read (asked s) (accepted o)) (counts-length s) (o .before .before .if1 .left))
+
+-- what the evaluation says of the multiset's actions
+module _ (c : tie.After-evaluate) where
+  abbrev multiset-there : tie.After-with-multiset
+  multiset-there = c .before .before
+
+  abbrev at-start : tie.Start
+  at-start = given-there multiset-there
+
+  said : satisfied (policy (asked at-start)) 0 (map (notedBy (asked at-start)) (listed 0 (at-start .args .counts))) ≡ c .evaluate .result .satisfied
+  said = sym (c .evaluate .ensures .is-satisfied
+      ∙ of-counted (asked at-start) (at-start .args .counts) (few (passed-all multiset-there)) (λ φ l. satisfied φ 0 l) (multiset-there .with-multiset .result) (is-counted multiset-there))
+
+  filled-for : c .evaluate .last .1 .0 ≡ filled (policy (asked at-start)) (map (notedBy (asked at-start)) (listed 0 (at-start .args .counts))) (at-start .args .workspace .now)
+  filled-for =
+      c .evaluate .ensures .workspace
+      ∙ of-counted (asked at-start) (at-start .args .counts) (few (passed-all multiset-there)) (λ φ l. filled φ l (at-start .args .workspace .now)) (multiset-there .with-multiset .result) (is-counted multiset-there)
 
 same-length : tie.Need-same-length
 same-length c = search needs
 
--- what the judgement says of the multiset's actions
-module _ (c : tie.After-judge) where
-  said : let a = c .before .before .before .before .before .before .before .before .before .before .before .before .before .before .args in
-      satisfies (termOf (decode (a .words .now))) (map (notedBy (a .words .now) (a .rows .now)) (listed 0 (a .counts))) ≡ c .judge .result .satisfied
-  said =
-      let m = c .before .before in
-      let f = m .before .before in
-      let a = f .before .before .before .before .before .before .before .before .before .before .args in
-      sym (c .judge .ensures .is-satisfied ∙ of-counted (a .users) (a .roles) (a .words .now) (a .rows .now) (a .counts) (few f) satisfies (m .with-multiset .result) (is-counted m))
-
-  filled-for : let a = c .before .before .before .before .before .before .before .before .before .before .before .before .before .before .args in
-      c .judge .last .1 .0 ≡ filled (termOf (decode (a .words .now))) (map (notedBy (a .words .now) (a .rows .now)) (listed 0 (a .counts))) (a .workspace .now)
-  filled-for =
-      let m = c .before .before in
-      let f = m .before .before in
-      let a = f .before .before .before .before .before .before .before .before .before .before .args in
-      c .judge .ensures .room
-      ∙ of-counted (a .users) (a .roles) (a .words .now) (a .rows .now) (a .counts) (few f) (λ φ l. filled φ l (a .workspace .now)) (m .with-multiset .result) (is-counted m)
-
 returns-5 : tie.Need-returns-5
 returns-5 c =
     let j = c .before .before .before in
-    let f = j .before .before .before .before in
-    let a = f .before .before .before .before .before .before .before .before .before .before .args in
-    judged-test (a .users) (a .roles) (a .words .now) (a .rows .now) (a .counts) (a .workspace .now) true (j .judge .last .1 .0) (no-refusal f) (said j ∙ c .if5 .taken) (filled-for j)
+    let s = at-start j in
+    yes-test (asked s) (s .args .counts) (s .args .workspace .now) (j .evaluate .last .1 .0) (no-refusal (passed-all (multiset-there j))) (filled-for j) (said j ∙ c .if5 .taken)
 
 same-length-2 : tie.Need-same-length-2
 same-length-2 c = search needs
@@ -163,9 +183,8 @@ same-length-2 c = search needs
 returns-6 : tie.Need-returns-6
 returns-6 c =
     let j = c .before .before .before in
-    let f = j .before .before .before .before in
-    let a = f .before .before .before .before .before .before .before .before .before .before .args in
-    judged-test (a .users) (a .roles) (a .words .now) (a .rows .now) (a .counts) (a .workspace .now) false (j .judge .last .1 .0) (no-refusal f) (said j ∙ c .if5 .left) (filled-for j)
+    let s = at-start j in
+    no-test (asked s) (s .args .counts) (s .args .workspace .now) (j .evaluate .last .1 .0) (no-refusal (passed-all (multiset-there j))) (filled-for j) (said j ∙ c .if5 .left)
 
 pub satisfies-spec : {M : Type 1} → statement M
 satisfies-spec =
@@ -179,7 +198,7 @@ satisfies-spec =
     total-from-requires-2
     returns-4
     with-multiset-requires
-    judge-requires
+    evaluate-requires
     same-length
     returns-5
     same-length-2

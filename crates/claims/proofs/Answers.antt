@@ -1,0 +1,70 @@
+-- What a monitor that keeps step with its accepted events answers next: by the opening and those events alone.
+use mathlib.Core.Path.{_≡_, refl, sym, _∙_, ap, ap₂}
+use mathlib.Core.Bool.{not, cond}
+use mathlib.Core.List.{List, [], _∷_, _++_}
+use Prim.Native.Nat.{ℕ, _≤_}
+use lib.Dec.{leb}
+use borrow.Author.Tests.{le-ltb}
+use Rattle.soda.specs.Tables.{satisfied, possible}
+use Rattle.soda.specs.Traces.{business, noted}
+use Rattle.soda.specs.Processes.{Symbol}
+use Rattle.policy.specs.Codes.{ACCEPTED, MALFORMED, FULL, NOT-POSSIBLE, CLOSED, NOT-SATISFIED}
+use Rattle.policy.specs.Refusals.{code}
+use Rattle.monitor.specs.declared.Monitor.{Monitor}
+use Rattle.monitor.specs.declared.Event.{Event}
+use Rattle.monitor.specs.declared.Event.the-variants.{Acts, Grants, Revokes, Closes, Malformed}
+use Rattle.monitor.specs.Instances.{isClosed}
+use Rattle.monitor.specs.Monitors.{Opening, policy, openCode, admission}
+use Rattle.monitor.specs.Events.{readEvent, eventIn, isMalformed, ownRefusals, eventRefusals, eventCode}
+use Rattle.monitor.specs.Statuses.{letterD, letterC, letterO, statusCode, statusLetter}
+use Rattle.monitor.proofs.Reading.{Declared, declared}
+use Rattle.monitor.proofs.Order.{is-admitted}
+use Rattle.claims.specs.Accuracy.{traceOf, hasClosed, businessEvents}
+use Rattle.claims.proofs.Follows.{Follows, satisfied-taken, possible-tried, same-number}
+
+-- the number of an event while no close has been accepted
+abbrev pub openAnswer : Opening → List Symbol → Event → ℕ
+openAnswer o l (Acts u a) =
+    cond (leb 12 (businessEvents l)) FULL
+    (cond (not (possible (policy o) 0 (noted (policy o) (o .rows) (traceOf l ++ (business u a ∷ []))))) NOT-POSSIBLE ACCEPTED)
+openAnswer o l (Grants u r) = ACCEPTED
+openAnswer o l (Revokes u r) = ACCEPTED
+openAnswer o l Closes = cond (not (satisfied (policy o) 0 (noted (policy o) (o .rows) (traceOf l)))) NOT-SATISFIED ACCEPTED
+openAnswer o l Malformed = MALFORMED
+
+abbrev pub answerTo : Opening → List Symbol → Event → ℕ
+answerTo o l e = cond (hasClosed l) CLOSED (openAnswer o l e)
+
+abbrev pub letterAfter : Opening → List Symbol → ℕ
+letterAfter o l = cond (hasClosed l) letterD (cond (satisfied (policy o) 0 (noted (policy o) (o .rows) (traceOf l))) letterC letterO)
+
+module _ (o : Opening) (z : openCode o ≡ 0) (m : Monitor) (l : List Symbol) (f : Follows o m l) where
+  pub same-event : (w : ℕ) → eventIn m w ≡ readEvent (o .users) (o .roles) w
+  same-event w = ap₂ (λ x y. readEvent x y w) (f .same-users) (f .same-roles)
+
+  by-kind : (e : Event) → Declared (m .configuration .users) (m .configuration .roles) e
+      → cond (isMalformed e) MALFORMED (code (ownRefusals (m .configuration) (m .instance) e)) ≡ openAnswer o l e
+  by-kind (Acts u a) d =
+      ap₂ (λ k b. cond (leb 12 k) FULL (cond (not b) NOT-POSSIBLE ACCEPTED)) (sym (same-number o z m l f)) (possible-tried o z m l f u a d)
+  by-kind (Grants u r) d = refl
+  by-kind (Revokes u r) d = refl
+  by-kind Closes d = ap (λ b. cond (not b) NOT-SATISFIED ACCEPTED) (satisfied-taken o z m l f)
+  by-kind Malformed d = refl
+
+  -- the tests in their order, where 12 and 15 do not apply
+  in-order : (e : Event) (n : ℕ) → 8192 ≤ n
+      → code (eventRefusals m e n) ≡ cond (isClosed (m .instance)) CLOSED (cond (isMalformed e) MALFORMED (code (ownRefusals (m .configuration) (m .instance) e)))
+  unfolding eventRefusals admission
+  in-order e n long = rw (le-ltb n 8192 long, f .is-well)
+
+  pub answered : (w n : ℕ) → 8192 ≤ n → eventCode m w n ≡ answerTo o l (readEvent (o .users) (o .roles) w)
+  answered w n long =
+      in-order (eventIn m w) n long
+      ∙ ap₂ (λ b k. cond b CLOSED k) (f .same-mark) (by-kind (eventIn m w) (declared (m .configuration .users) (m .configuration .roles) w))
+      ∙ ap (answerTo o l) (same-event w)
+
+  pub status-given : (n : ℕ) → 8192 ≤ n → statusCode m n ≡ ACCEPTED
+  status-given n long = is-admitted m n long (f .is-well)
+
+  pub letter-given : (n : ℕ) → 8192 ≤ n → statusLetter m n ≡ letterAfter o l
+  letter-given n long = rw (status-given n long) (ap₂ (λ b s. cond b letterD (cond s letterC letterO)) (f .same-mark) (satisfied-taken o z m l f))

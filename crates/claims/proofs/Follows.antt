@@ -1,0 +1,319 @@
+-- A monitor keeps step with its accepted events: its rows are what their trace makes of the grants, its taken actions are what the
+-- trace's actions note, and they are possible.
+use mathlib.Core.Path.{_≡_, refl, sym, _∙_, ap, ap₂, subst}
+use mathlib.Core.Bool.{Bool, true, false, So, _||_, cond}
+use mathlib.Core.List.{List, [], _∷_, _++_, map, map-append, append-nil, append-assoc}
+use mathlib.Core.Option.{Option, some, none}
+use Prim.Native.Nat.{ℕ, _-_, _≤_, _<_}
+use native.Mathlib.Omega.{arith}
+use lib.Dec.{ltb, eqb}
+use lib.ListN.{length, take, set as put, replicate, length-set, length-map, length-replicate}
+use lib.Seq.{take-append-seam, take-set-lt, getD-take, length-take-le}
+use borrow.Author.Tests.{leb-false, not-false, eqb-true}
+use Rattle.soda.specs.Bits.{bit, setBit, clearBit}
+use Rattle.soda.specs.Lists.{padded}
+use Rattle.soda.specs.Terms.{Term, wellFormed as wellFormedTerm}
+use Rattle.soda.specs.Roles.{UA, roles, grant, revoke}
+use Rattle.soda.specs.declared.Action.{Action}
+use Rattle.soda.specs.Tables.{satisfied, possible, note}
+use Rattle.soda.specs.Traces.{business, addUA, rmUA, Trace, upd, after, actedBelow, execution, executed, noted}
+use Rattle.soda.specs.Processes.{Symbol, event, done, unfinished, finished}
+use Rattle.soda.proofs.Bools.{never, by-test, and-split, and-join, lt-so}
+use Rattle.soda.proofs.Tables.{empty-set}
+use Rattle.soda.proofs.Traces.{executed-append}
+use Rattle.policy.specs.Refusals.{code}
+use Rattle.policy.specs.Words.{decode, termOf}
+use Rattle.policy.specs.Reading.{isTerm, isFormed, metIn, metOf}
+use Rattle.policy.proofs.Refusals.{clear}
+use Rattle.monitor.specs.declared.Configuration.{Configuration}
+use Rattle.monitor.specs.declared.Instance.{Instance}
+use Rattle.monitor.specs.declared.Monitor.{Monitor}
+use Rattle.monitor.specs.declared.Event.{Event}
+use Rattle.monitor.specs.declared.Event.the-variants.{Acts, Grants, Revokes, Closes, Malformed}
+use Rattle.monitor.specs.Configurations.{assignment, held}
+use Rattle.monitor.specs.Instances.{policyOf, takenOf, term, isClosed, noted as notedAs, notedFor, tried}
+use Rattle.monitor.specs.Monitors.{Opening, policy, openCode, fresh, opened, wellFormed}
+use Rattle.monitor.specs.Events.{eventIn, ownRefusals, configured, advanced, applied, eventCode, eventMonitor, outcome}
+use Rattle.monitor.specs.Private.{Entered}
+use Rattle.monitor.specs.Runs.{Lengths, from, stepOf, run, final}
+use Rattle.monitor.proofs.Opening.{opened-fresh}
+use Rattle.monitor.proofs.Formed.{formed, one-each, opens-read, opens-rows}
+use Rattle.monitor.proofs.Reading.{declared, entered}
+use Rattle.monitor.proofs.Order.{Passed, passed}
+use Rattle.monitor.proofs.Fillable.{taken-more}
+use Rattle.monitor.proofs.Preserved.{opened-is-well-formed, accepted-stays-well-formed}
+use Rattle.claims.specs.Runs.{symbolOf, kept, accepted}
+use Rattle.claims.specs.Accuracy.{traceOf, hasClosed, businessEvents}
+
+-- ── traces and symbols that grow at their end ──
+upd-append : (s t : Trace) (ua : UA) → upd ua (s ++ t) ≡ upd (upd ua s) t
+upd-append [] t ua = refl
+upd-append (e ∷ s) t ua = upd-append s t (after ua e)
+
+pub noted-append : (φ : Term) (s t : Trace) (ua : UA) → noted φ ua (s ++ t) ≡ noted φ ua s ++ noted φ (upd ua s) t
+noted-append φ s t ua = ap (map (note φ)) (executed-append s t ua) ∙ map-append (note φ) (executed ua s) (executed (upd ua s) t)
+
+pub below-append : (n : ℕ) (s t : Trace) → So (actedBelow n s) → So (actedBelow n t) → So (actedBelow n (s ++ t))
+below-append n [] t h k = k
+below-append n (business u a ∷ s) t h k = let m = and-split (ltb u n) (actedBelow n s) h in and-join (ltb u n) (actedBelow n (s ++ t)) (m .0) (below-append n s t (m .1) k)
+below-append n (addUA u r ∷ s) t h k = below-append n s t h k
+below-append n (rmUA u r ∷ s) t h k = below-append n s t h k
+
+trace-append : (l k : List Symbol) → traceOf (l ++ k) ≡ traceOf l ++ traceOf k
+trace-append [] k = refl
+trace-append (event e ∷ l) k = ap (λ t. e ∷ t) (trace-append l k)
+trace-append (done ∷ l) k = trace-append l k
+
+closed-append : (l k : List Symbol) → hasClosed (l ++ k) ≡ (hasClosed l || hasClosed k)
+closed-append [] k = refl
+closed-append (event e ∷ l) k = closed-append l k
+closed-append (done ∷ l) k = refl
+
+-- as many actions as their trace has
+counted : (l : List Symbol) (ua : UA) → businessEvents l ≡ length (executed ua (traceOf l))
+counted [] ua = refl
+counted (event (business u a) ∷ l) ua = let k = counted l ua in omega arith
+counted (event (addUA u r) ∷ l) ua = let k = counted l (grant ua u r) in omega arith
+counted (event (rmUA u r) ∷ l) ua = let k = counted l (revoke ua u r) in omega arith
+counted (done ∷ l) ua = counted l ua
+
+-- a trace, with done behind it where it is closed
+abbrev pub ended : Trace → Bool → List Symbol
+ended t c = cond c (finished t) (unfinished t)
+
+pub unfinished-append : (s t : Trace) → unfinished (s ++ t) ≡ unfinished s ++ unfinished t
+unfinished-append s t = map-append event s t
+
+-- ── the policy of an opening ──
+module _ (o : Opening) (z : openCode o ≡ 0) where
+  decoded : decode (o .words) ≡ some (policy o)
+  decoded = go (decode (o .words)) (opens-read o z .term)
+    where
+      go : (x : Option Term) → So (isTerm x) → x ≡ some (termOf x)
+      go none h = never h
+      go (some φ) h = refl
+
+  pub formed-policy : So (wellFormedTerm (policy o))
+  formed-policy = subst (λ x. So (isFormed x)) decoded (opens-read o z .formed)
+
+  -- what is noted of a user with these roles is what the algebra notes
+  pub noted-is-note : (u h : ℕ) → notedAs (o .words) u h ≡ note (policy o) (record { user = u; held = h })
+  unfolding metOf
+  noted-is-note u h = rw (opens-read o z .long) (ap (λ x. record { user = u; met = metIn x u h }) decoded)
+
+-- ── keeping step ──
+-- l are the accepted events
+pub record Follows (o : Opening) (m : Monitor) (l : List Symbol) : Type 0 where
+  pub is-well : So (wellFormed m)
+  pub places : length (m .instance .actions) ≡ 12
+  pub same-users : m .configuration .users ≡ o .users
+  pub same-roles : m .configuration .roles ≡ o .roles
+  pub same-words : policyOf (m .instance) ≡ o .words
+  pub same-rows : assignment (m .configuration) ≡ upd (o .rows) (traceOf l)
+  pub same-taken : takenOf (m .instance) ≡ noted (policy o) (o .rows) (traceOf l)
+  pub same-mark : isClosed (m .instance) ≡ hasClosed l
+  pub fits : So (possible (policy o) 0 (takenOf (m .instance)))
+  pub below : So (actedBelow (o .users) (traceOf l))
+  pub ends : l ≡ ended (traceOf l) (hasClosed l)
+
+module _ (o : Opening) (z : openCode o ≡ 0) where
+  follows-fresh : Follows o (fresh o) []
+  unfolding fresh
+  follows-fresh = record {
+    is-well = opened-is-well-formed o z;
+    places = refl;
+    same-users = refl;
+    same-roles = refl;
+    same-words = take-append-seam (o .words) (replicate (31 - length (o .words)) 0);
+    same-rows = ap (λ n. take n (padded 16 (o .rows))) (sym (one-each (o .users) (o .roles) (o .rows) (opens-rows o z)))
+        ∙ take-append-seam (o .rows) (replicate (16 - length (o .rows)) 0);
+    same-taken = refl;
+    same-mark = refl;
+    fits = empty-set Action (λ a. a .user) (λ φ j a. bit j (a .met)) true (policy o) 0;
+    below = refl;
+    ends = refl;
+  }
+
+  pub follows-opened : Follows o (opened o) []
+  follows-opened = subst (λ m. Follows o m []) (sym (opened-fresh o z)) follows-fresh
+
+  module _ (m : Monitor) (l : List Symbol) (f : Follows o m l) where
+    abbrev c : Configuration
+    c = m .configuration
+
+    abbrev i : Instance
+    i = m .instance
+
+    abbrev t : Trace
+    t = traceOf l
+
+    -- the user assignment as it stands
+    abbrev ua : UA
+    ua = upd (o .rows) t
+
+    same-term : term i ≡ policy o
+    same-term = ap (λ v. termOf (decode v)) (f .same-words)
+
+    -- a declared user's row
+    row-at : (u : ℕ) → u < c .users → held c u ≡ roles (assignment c) u
+    row-at u h = sym (getD-take (c .users) (c .«user_roles») u 0 h)
+
+    noted-next : (u : ℕ) → u < c .users → notedFor c i u ≡ note (policy o) (execution ua u)
+    noted-next u h = ap₂ (λ v x. notedAs v u x) (f .same-words) (row-at u h ∙ ap (λ x. roles x u) (f .same-rows)) ∙ noted-is-note o z u (roles ua u)
+
+    -- the actions that a trial judges
+    tried-next : (u a : ℕ) → u < c .users → tried c i u ≡ noted (policy o) (o .rows) (t ++ (business u a ∷ []))
+    tried-next u a h = ap₂ (λ x y. x ++ (y ∷ [])) (f .same-taken) (noted-next u h) ∙ sym (noted-append (policy o) t (business u a ∷ []) (o .rows))
+
+    pub satisfied-taken : satisfied (term i) 0 (takenOf i) ≡ satisfied (policy o) 0 (noted (policy o) (o .rows) t)
+    satisfied-taken = ap₂ (λ φ s. satisfied φ 0 s) same-term (f .same-taken)
+
+    pub possible-tried : (u a : ℕ) → u < c .users → possible (term i) 0 (tried c i u) ≡ possible (policy o) 0 (noted (policy o) (o .rows) (t ++ (business u a ∷ [])))
+    possible-tried u a h = ap₂ (λ φ s. possible φ 0 s) same-term (tried-next u a h)
+
+    pub taken-most : i .taken ≤ 12
+    taken-most = formed m (f .is-well) .in-instance .taken-most
+
+    pub same-number : businessEvents l ≡ i .taken
+    same-number =
+        counted l (o .rows) ∙ sym (length-map (executed (o .rows) t) (note (policy o))) ∙ ap (λ (s : List Action). length s) (sym (f .same-taken))
+        ∙ length-take-le (i .taken) (i .actions) (omega (arith, f .places, taken-most))
+
+    -- ── an event that enters, part by part ──
+    rows-next : (e : Event) → Entered c e → assignment (configured c e) ≡ upd (assignment c) (traceOf (symbolOf e))
+    rows-next (Acts u a) d = refl
+    rows-next (Grants u r) d =
+        take-set-lt (c .users) (c .«user_roles») u (setBit r (held c u)) (d .0) ∙ ap (λ x. put (assignment c) u (setBit r x)) (row-at u (d .0))
+    rows-next (Revokes u r) d =
+        take-set-lt (c .users) (c .«user_roles») u (clearBit r (held c u)) (d .0) ∙ ap (λ x. put (assignment c) u (clearBit r x)) (row-at u (d .0))
+    rows-next Closes d = refl
+    rows-next Malformed d = refl
+
+    -- an action that is taken
+    more : (u : ℕ) → i .taken < 12 → takenOf (advanced c i (Acts u 0)) ≡ tried c i u
+    more u free = taken-more i (notedFor c i u) (omega (arith, f .places))
+
+    taken-next : (e : Event) → Entered c e → code (ownRefusals c i e) ≡ 0 → takenOf (advanced c i e) ≡ takenOf i ++ noted (policy o) ua (traceOf (symbolOf e))
+    taken-next (Acts u a) d k =
+        let j = clear (ownRefusals c i (Acts u a)) refl k in
+        more u (leb-false 12 (i .taken) (j .0)) ∙ ap (λ x. takenOf i ++ (x ∷ [])) (noted-next u d)
+    taken-next (Grants u r) d k = sym (append-nil (takenOf i))
+    taken-next (Revokes u r) d k = sym (append-nil (takenOf i))
+    taken-next Closes d k = sym (append-nil (takenOf i))
+    taken-next Malformed d k = absurd d
+
+    fits-next : (e : Event) → Entered c e → code (ownRefusals c i e) ≡ 0 → So (possible (policy o) 0 (takenOf (advanced c i e)))
+    fits-next (Acts u a) d k =
+        let j = clear (ownRefusals c i (Acts u a)) refl k in
+        ap₂ (λ φ s. possible φ 0 s) (sym same-term) (more u (leb-false 12 (i .taken) (j .0))) ∙ not-false (possible (term i) 0 (tried c i u)) (j .1 .0)
+    fits-next (Grants u r) d k = f .fits
+    fits-next (Revokes u r) d k = f .fits
+    fits-next Closes d k = f .fits
+    fits-next Malformed d k = f .fits
+
+    mark-next : (e : Event) → isClosed i ≡ false → isClosed (advanced c i e) ≡ hasClosed (symbolOf e)
+    mark-next (Acts u a) k = k
+    mark-next (Grants u r) k = k
+    mark-next (Revokes u r) k = k
+    mark-next Closes k = refl
+    mark-next Malformed k = k
+
+    places-next : (e : Event) → length (advanced c i e .actions) ≡ 12
+    places-next (Acts u a) = length-set (i .actions) (i .taken) (notedFor c i u) ∙ f .places
+    places-next (Grants u r) = f .places
+    places-next (Revokes u r) = f .places
+    places-next Closes = f .places
+    places-next Malformed = f .places
+
+    below-next : (e : Event) → Entered c e → So (actedBelow (o .users) (traceOf (symbolOf e)))
+    below-next (Acts u a) d = and-join (ltb u (o .users)) true (lt-so u (o .users) (subst (λ n. u < n) (f .same-users) d)) refl
+    below-next (Grants u r) d = refl
+    below-next (Revokes u r) d = refl
+    below-next Closes d = refl
+    below-next Malformed d = refl
+
+    ends-next : (e : Event) → hasClosed l ≡ false → l ++ symbolOf e ≡ ended (t ++ traceOf (symbolOf e)) (hasClosed (symbolOf e))
+    ends-next e k = ap (λ x. x ++ symbolOf e) (f .ends ∙ ap (ended t) k) ∙ go e
+      where
+        go : (e : Event) → unfinished t ++ symbolOf e ≡ ended (t ++ traceOf (symbolOf e)) (hasClosed (symbolOf e))
+        go (Acts u a) = sym (unfinished-append t (business u a ∷ []))
+        go (Grants u r) = sym (unfinished-append t (addUA u r ∷ []))
+        go (Revokes u r) = sym (unfinished-append t (rmUA u r ∷ []))
+        go Closes = ap finished (sym (append-nil t))
+        go Malformed = append-nil (unfinished t) ∙ ap unfinished (sym (append-nil t))
+
+    -- the counts and the policy stay
+    stays : (e : Event) → (configured c e .users ≡ c .users) × (configured c e .roles ≡ c .roles) × (policyOf (advanced c i e) ≡ policyOf i)
+    stays (Acts u a) = (refl, refl, refl)
+    stays (Grants u r) = (refl, refl, refl)
+    stays (Revokes u r) = (refl, refl, refl)
+    stays Closes = (refl, refl, refl)
+    stays Malformed = (refl, refl, refl)
+
+    -- the symbols of the next event behind the accepted ones
+    trace-next : (e : Event) → traceOf (l ++ symbolOf e) ≡ t ++ traceOf (symbolOf e)
+    trace-next e = trace-append l (symbolOf e)
+
+    follows-next : (e : Event) (n : ℕ) → Passed m e n → Entered c e → So (wellFormed (applied m e)) → Follows o (applied m e) (l ++ symbolOf e)
+    follows-next e n p d h =
+        let (users, roles, words) = stays e in
+        let s = traceOf (symbolOf e) in
+        let was-open : hasClosed l ≡ false = sym (f .same-mark) ∙ p .is-open in
+        let closed : hasClosed (l ++ symbolOf e) ≡ hasClosed (symbolOf e) = closed-append l (symbolOf e) ∙ ap (λ b. b || hasClosed (symbolOf e)) was-open in
+        record {
+          is-well = h;
+          places = places-next e;
+          same-users = users ∙ f .same-users;
+          same-roles = roles ∙ f .same-roles;
+          same-words = words ∙ f .same-words;
+          same-rows = rows-next e d ∙ ap (λ x. upd x s) (f .same-rows) ∙ sym (upd-append t s (o .rows)) ∙ ap (upd (o .rows)) (sym (trace-next e));
+          same-taken = taken-next e d (p .own) ∙ ap (λ x. x ++ noted (policy o) ua s) (f .same-taken) ∙ sym (noted-append (policy o) t s (o .rows))
+              ∙ ap (noted (policy o) (o .rows)) (sym (trace-next e));
+          same-mark = mark-next e (p .is-open) ∙ sym closed;
+          fits = fits-next e d (p .own);
+          below = subst (λ x. So (actedBelow (o .users) x)) (sym (trace-next e)) (below-append (o .users) t s (f .below) (below-next e d));
+          ends = ends-next e was-open ∙ ap₂ ended (sym (trace-next e)) (sym closed);
+        }
+
+    -- ── one step of a run ──
+    well-next : (w n : ℕ) → eventCode m w n ≡ 0 → So (wellFormed (eventMonitor m w n))
+    unfolding outcome
+    well-next w n k =
+        subst (λ x. So (wellFormed (eventMonitor m w x))) long (accepted-stays-well-formed m w lent (f .places) (ap (eventCode m w) long ∙ k))
+      where
+        -- any workspace of that length
+        lent : List ℕ
+        lent = replicate n 0
+
+        long : length lent ≡ n
+        long = length-replicate n 0
+
+    pub step : (w : ℕ) (n : Lengths) → Follows o (eventMonitor m w (n 0)) (l ++ kept (stepOf m w n))
+    step w n = by-test (eqb (eventCode m w (n 0)) 0) taken refused
+      where
+        e : Event
+        e = eventIn m w
+
+        Left : Bool → Type 0
+        Left b = Follows o (cond b (applied m e) m) (l ++ cond b (symbolOf e) [])
+
+        taken : eqb (eventCode m w (n 0)) 0 ≡ true → Left (eqb (eventCode m w (n 0)) 0)
+        taken k =
+            let accepts = eqb-true (eventCode m w (n 0)) 0 k in
+            let p = passed m e (n 0) accepts in
+            let h : So (wellFormed (applied m e)) = rw k at (well-next w (n 0) accepts) in
+            rw k (follows-next e (n 0) p (entered c e (declared (c .users) (c .roles) w) (p .in-layout)) h)
+
+        refused : eqb (eventCode m w (n 0)) 0 ≡ false → Left (eqb (eventCode m w (n 0)) 0)
+        refused k = rw k (subst (Follows o m) (sym (append-nil l)) f)
+
+-- ── a whole run ──
+pub follows-run : (o : Opening) → openCode o ≡ 0 → (ws : List ℕ) (n : Lengths) (m : Monitor) (l : List Symbol) → Follows o m l
+    → Follows o (final m (run m ws n)) (l ++ accepted (run m ws n))
+unfolding run
+follows-run o z [] n m l f = subst (Follows o m) (sym (append-nil l)) f
+follows-run o z (w ∷ ws) n m l f =
+    let j = eventMonitor m w (n 0) in
+    let k = kept (stepOf m w n) in
+    subst (Follows o (final j (run j ws (from 2 n)))) (append-assoc l k (accepted (run j ws (from 2 n))))
+    (follows-run o z ws (from 2 n) j (l ++ k) (step o z m l f w n))

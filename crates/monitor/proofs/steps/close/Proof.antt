@@ -1,0 +1,43 @@
+-- Each return rewrites the definition with the test that led there and with what the evaluation says.
+use borrow.Author.Needs.{needs}
+use Rattle.monitor.proofs.Results.{failed, passed}
+use Rattle.monitor.proofs.Formed.{configuration-formed, instance-formed}
+use Rattle.monitor.proofs.Fillable.{fillable-formed}
+use Rattle.monitor.proofs.steps.close.Statement.{statement}
+use Rattle.monitor.proofs.steps.close.Tie as tie
+
+evaluate-requires : tie.Need-evaluate-requires
+evaluate-requires c κs =
+    let s = c .before .before in
+    let a = s .args in
+    fillable-formed (a .configuration) (a .instance) (a .workspace .now)
+    (configuration-formed (a .configuration) (s .pre .configuration-ok)) (instance-formed (a .configuration) (a .instance) (s .pre .instance-ok)) (s .pre .long)
+
+-- the evaluation's place
+abbrev evaluated : tie.After-struct-known → tie.After-evaluate
+evaluated c = c .before .before .before
+
+same-length : tie.Need-same-length
+same-length c = search needs
+
+returns : tie.Need-returns
+returns c =
+    let j = evaluated (c .before) in
+    simp (failed (j .evaluate .ensures .is-satisfied) (c .if1 .taken), j .evaluate .ensures .workspace)
+
+as-closed-requires : tie.Need-as-closed-requires
+as-closed-requires c κs = search needs
+
+same-length-2 : tie.Need-same-length-2
+same-length-2 c = search needs
+
+returns-2 : tie.Need-returns-2
+returns-2 c =
+    let e = c .before in
+    let j = evaluated (e .before) in
+    simp (passed (j .evaluate .ensures .is-satisfied) (e .if1 .left), j .evaluate .ensures .workspace, c .as-closed .ensures)
+
+pub close-spec : {M : Type 1} → statement M
+close-spec =
+    tie.close
+    (tie.spec evaluate-requires same-length returns as-closed-requires same-length-2 returns-2)

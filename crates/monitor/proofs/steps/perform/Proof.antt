@@ -1,0 +1,155 @@
+-- By the event: an action or a close moves the instance, a grant or revocation the configuration.
+use mathlib.Core.Path.{_≡_, refl, sym, subst, ap, _∙_}
+use Prim.Native.Nat.{ℕ, _<_}
+use native.Mathlib.Omega.{arith}
+use borrow.Author.Needs.{needs}
+use Rattle.monitor.specs.declared.Event.{Event}
+use Rattle.monitor.specs.declared.Event.the-variants.{Acts, Grants, Revokes, Closes, Malformed}
+use Rattle.monitor.specs.Private.{Entered, monitorOutcome}
+use Rattle.monitor.proofs.Formed.{configuration-formed, users-most, roles-most}
+use Rattle.monitor.proofs.Order.{lifted}
+use Rattle.monitor.proofs.steps.perform.Statement.{statement}
+use Rattle.monitor.proofs.steps.perform.Tie as tie
+
+-- what an event is known to name
+module _ (i : tie.After-instance) where
+  abbrev start : tie.Start
+  start = i .before .before .before
+
+  names : (e : Event) → start .args .event ≡ e → Entered (start .args .monitor .configuration) e
+  names e is = subst (Entered (start .args .monitor .configuration)) is (start .pre .1)
+
+  -- declared users and roles have a place in the rows
+  in-rows : (u r : ℕ) → (u < start .args .monitor .configuration .users) × (r < start .args .monitor .configuration .roles) → (u < 16) × (r < 16)
+  in-rows u r d =
+      let c = start .args .monitor .configuration in
+      let f = configuration-formed c (start .pre .0 .configuration-ok) in
+      (omega (arith, d .0, users-most c f), omega (arith, d .1, roles-most c f))
+
+enum-known-event : tie.Need-enum-known-event
+enum-known-event c = search needs
+
+act-requires : tie.Need-act-requires
+act-requires c κs =
+    let v = c .before .before in
+    let i = v .before .before in
+    (start i .pre .0, names i (Acts (v .event .given .0 .0) (v .event .given .0 .1 .0)) (v .event .given .1))
+
+answer-requires : tie.Need-answer-requires
+answer-requires c κs = search needs
+
+enum-known-event-2 : tie.Need-enum-known-event-2
+enum-known-event-2 c = search needs
+
+with-grant-requires : tie.Need-with-grant-requires
+with-grant-requires c κs =
+    let v = c .before in
+    let i = v .before .before in
+    let u : ℕ = v .event2 .given .0 .0 in
+    let r : ℕ = v .event2 .given .0 .1 .0 in
+    in-rows i u r (names i (Grants u r) (v .event2 .given .1))
+
+answer-requires-2 : tie.Need-answer-requires-2
+answer-requires-2 c κs = search needs
+
+enum-known-event-3 : tie.Need-enum-known-event-3
+enum-known-event-3 c = search needs
+
+without-grant-requires : tie.Need-without-grant-requires
+without-grant-requires c κs =
+    let v = c .before in
+    let i = v .before .before in
+    let u : ℕ = v .event3 .given .0 .0 in
+    let r : ℕ = v .event3 .given .0 .1 .0 in
+    in-rows i u r (names i (Revokes u r) (v .event3 .given .1))
+
+answer-requires-3 : tie.Need-answer-requires-3
+answer-requires-3 c κs = search needs
+
+enum-told : tie.Need-enum-told
+enum-told c = search needs
+
+close-requires : tie.Need-close-requires
+close-requires c κs = start (c .before .before .before) .pre .0
+
+answer-requires-4 : tie.Need-answer-requires-4
+answer-requires-4 c κs = search needs
+
+enum-told-2 : tie.Need-enum-told-2
+enum-told-2 c = search needs
+
+answer-requires-5 : tie.Need-answer-requires-5
+answer-requires-5 c κs = search needs
+
+same-length : tie.Need-same-length
+same-length c = search needs
+
+-- the places of the calls that move the instance
+abbrev acted : tie.After-next → tie.After-act
+acted c = c .before .before .before
+
+abbrev closed : tie.After-next2 → tie.After-close
+closed c = c .before .before .before
+
+returns : tie.Need-returns
+returns c =
+    let t = acted (c .before) in
+    let v = t .before .before .before in
+    let a = start (v .before .before) .args in
+    let n : ℕ = v .event .given .0 .1 .0 in
+    rw (c .answer .ensures)
+    (lifted (a .monitor) (Acts (v .event .given .0 .0) n) (a .workspace .now) refl _ (t .act .ensures n)
+    ∙ sym (ap (λ (e : Event). monitorOutcome (a .monitor) e (a .workspace .now)) (v .event .given .1)))
+
+returns-2 : tie.Need-returns-2
+returns-2 c =
+    let g = c .before in
+    rw (c .answer2 .ensures, g .with-grant .ensures, g .before .before .event2 .given .1)
+
+returns-3 : tie.Need-returns-3
+returns-3 c =
+    let g = c .before in
+    rw (c .answer3 .ensures, g .without-grant .ensures, g .before .before .event3 .given .1)
+
+same-length-2 : tie.Need-same-length-2
+same-length-2 c = search needs
+
+returns-4 : tie.Need-returns-4
+returns-4 c =
+    let t = closed (c .before) in
+    let v = t .before .before in
+    let a = start (v .before .before) .args in
+    rw (c .answer4 .ensures)
+    (lifted (a .monitor) Closes (a .workspace .now) refl _ (t .close .ensures)
+    ∙ sym (ap (λ (e : Event). monitorOutcome (a .monitor) e (a .workspace .now)) (v .enum-told .given .1)))
+
+returns-5 : tie.Need-returns-5
+returns-5 c =
+    let v = c .before in
+    absurd (names (v .before .before) Malformed (v .enum-told2 .given .1))
+
+pub perform-spec : {M : Type 1} → statement M
+perform-spec =
+    tie.close
+    (tie.spec
+    enum-known-event
+    act-requires
+    answer-requires
+    enum-known-event-2
+    with-grant-requires
+    answer-requires-2
+    enum-known-event-3
+    without-grant-requires
+    answer-requires-3
+    enum-told
+    close-requires
+    answer-requires-4
+    enum-told-2
+    answer-requires-5
+    same-length
+    returns
+    returns-2
+    returns-3
+    same-length-2
+    returns-4
+    returns-5)

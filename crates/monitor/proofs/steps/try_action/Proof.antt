@@ -1,0 +1,78 @@
+-- The tried instance has the noted action behind the taken ones, and the workspace can be filled for it.
+use mathlib.Core.Path.{_≡_, ap, _∙_}
+use mathlib.Core.List.{List}
+use Prim.Native.Nat.{_<_}
+use native.Mathlib.Omega.{arith}
+use borrow.Author.Needs.{needs}
+use lib.ListN.{length}
+use Rattle.soda.specs.Tables.{possible}
+use Rattle.soda.specs.declared.Action.{Action}
+use Rattle.workspace.specs.Workspace.{filled}
+use Rattle.monitor.specs.declared.Instance.{Instance}
+use Rattle.monitor.specs.Instances.{term, takenOf, notedFor, withAction}
+use Rattle.monitor.proofs.Loops.{length-mapped}
+use Rattle.monitor.proofs.Formed.{ConfigurationFormed, InstanceFormed, configuration-formed, instance-formed, users-most}
+use Rattle.monitor.proofs.Fillable.{taken-more, fillable-more}
+use Rattle.monitor.proofs.steps.try_action.Statement.{statement}
+use Rattle.monitor.proofs.steps.try_action.Tie as tie
+
+module _ (s : tie.Start) where
+  actions-length : length (s .args .instance .actions) ≡ 12
+  actions-length = search (needs, length-mapped)
+
+  over : ConfigurationFormed (s .args .configuration)
+  over = configuration-formed (s .args .configuration) (s .pre .0 .configuration-ok)
+
+  well : InstanceFormed (s .args .configuration) (s .args .instance)
+  well = instance-formed (s .args .configuration) (s .args .instance) (s .pre .0 .instance-ok)
+
+  within : s .args .instance .taken < length (s .args .instance .actions)
+  within = omega (arith, s .pre .1, actions-length)
+
+  abbrev own : Action
+  own = notedFor (s .args .configuration) (s .args .instance) (s .args .user)
+
+noted-requires : tie.Need-noted-requires
+noted-requires c κs =
+    let s = c .before in
+    (well s .words-most, omega (arith, s .pre .2, users-most (s .args .configuration) (over s)))
+
+with-action-requires : tie.Need-with-action-requires
+with-action-requires c κs = search needs
+
+-- the instance that is tried
+module _ (c : tie.After-with-action) where
+  abbrev start : tie.Start
+  start = c .before .before .before
+
+  tried-is : c .with-action .result ≡ withAction (start .args .instance) (own start)
+  tried-is = c .with-action .ensures ∙ ap (withAction (start .args .instance)) (c .before .noted .ensures)
+
+evaluate-requires : tie.Need-evaluate-requires
+evaluate-requires c κs =
+    let s = start (c .before) in
+    rw (tried-is (c .before))
+    (fillable-more (s .args .configuration) (s .args .instance) (s .args .workspace .now) (over s) (well s) (s .pre .0 .long) (own s) (s .pre .1) (within s) (s .pre .2))
+
+same-length : tie.Need-same-length
+same-length c = search needs
+
+returns : tie.Need-returns
+returns c =
+    let j = c .before .before in
+    let t = j .before .before in
+    let s = start t in
+    let i = s .args .instance in
+    let e = tried-is t in
+    let more = taken-more i (own s) (within s) in
+    record {
+      is-with = e;
+      is-possible = j .evaluate .ensures .is-possible ∙ ap (λ (x : Instance). possible (term x) 0 (takenOf x)) e ∙ ap (possible (term i) 0) more;
+      workspace =
+          j .evaluate .ensures .workspace ∙ ap (λ (x : Instance). filled (term x) (takenOf x) (s .args .workspace .now)) e
+          ∙ ap (λ (l : List Action). filled (term i) l (s .args .workspace .now)) more;
+    }
+
+pub try-action-spec : {M : Type 1} → statement M
+try-action-spec =
+    tie.close (tie.spec noted-requires with-action-requires evaluate-requires same-length returns)

@@ -1,0 +1,59 @@
+-- The monitor (document 01: sheet), a configuration and an instance: the blank one, opening one, and when one is well formed.
+use mathlib.Core.Bool.{Bool, not, _&&_, cond}
+use mathlib.Core.List.{List, [], _∷_, _++_}
+use Prim.Native.Nat.{ℕ}
+use lib.Dec.{ltb, eqb}
+use Rattle.soda.specs.Terms.{Term}
+use Rattle.policy.specs.Codes.{ROWS, WORKSPACE, MONITOR}
+use Rattle.policy.specs.Refusals.{_gives_, code}
+use Rattle.policy.specs.Words.{decode, termOf}
+use Rattle.policy.specs.Reading.{refusals}
+use Rattle.monitor.specs.declared.Monitor.{Monitor}
+use Rattle.monitor.specs.declared.Answer.{Answer}
+use Rattle.monitor.specs.Configurations.{noConfiguration, configurationOf, rowsOk, configurationOk}
+use Rattle.monitor.specs.Instances.{noInstance, instanceOf, instanceOk}
+
+-- ── opening ──
+-- what an opening is given: the counts, the policy's words and the grants
+pub record Opening : Type 0 where
+  pub users : ℕ
+  pub roles : ℕ
+  pub words : List ℕ
+  pub rows : List ℕ
+
+abbrev pub given : ℕ → ℕ → List ℕ → List ℕ → Opening
+given users roles words rows = record { users = users; roles = roles; words = words; rows = rows }
+
+-- the term that its words are
+abbrev pub policy : Opening → Term
+policy o = termOf (decode (o .words))
+
+-- 01's order: 5, 1, 2, 3, 4, 6
+unfoldable pub openRefusals : Opening → List (Bool × ℕ)
+openRefusals o = refusals (o .users) (o .roles) (o .words) ++ ((not (rowsOk (o .users) (o .roles) (o .rows)) gives ROWS) ∷ [])
+
+abbrev pub openCode : Opening → ℕ
+openCode o = code (openRefusals o)
+
+-- the blank sheet, all zero
+unfoldable pub blank : Monitor
+blank = record { configuration = noConfiguration; instance = noInstance }
+
+-- an opened sheet
+unfoldable pub fresh : Opening → Monitor
+fresh o = record { configuration = configurationOf (o .users) (o .roles) (o .rows); instance = instanceOf (o .words) }
+
+-- what an opening leaves; a refused one hands back the blank sheet
+unfoldable pub opened : Opening → Monitor
+opened o = cond (eqb (openCode o) 0) (fresh o) blank
+
+abbrev pub opening : Opening → Answer
+opening o = record { code = openCode o; monitor = opened o }
+
+-- ── number 15: exactly 01's list ──
+abbrev pub wellFormed : Monitor → Bool
+wellFormed m = configurationOk (m .configuration) && instanceOk (m .configuration) (m .instance)
+
+-- ── 12, 15: what every call on a monitor asks first; n is the length of the workspace ──
+unfoldable pub admission : Monitor → ℕ → List (Bool × ℕ)
+admission m n = (ltb n 8192 gives WORKSPACE) ∷ (not (wellFormed m) gives MONITOR) ∷ []

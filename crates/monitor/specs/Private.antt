@@ -1,0 +1,90 @@
+-- What the monitor's private functions ask for and give.
+use mathlib.Core.Path.{_≡_}
+use mathlib.Core.Bool.{Bool, So, _&&_, cond}
+use mathlib.Core.List.{List, [], _∷_}
+use Prim.Native.Nat.{ℕ, _≤_, _<_}
+use lib.Dec.{leb, eqb}
+use lib.ListN.{length}
+use Rattle.soda.specs.Tables.{satisfied, possible}
+use Rattle.soda.specs.declared.Action.{Action}
+use Rattle.policy.specs.Refusals.{code}
+use Rattle.policy.specs.Words.{decode}
+use Rattle.policy.specs.Reading.{lengthOk}
+use Rattle.workspace.specs.Workspace.{filled, isFillable}
+use Rattle.monitor.specs.declared.Configuration.{Configuration}
+use Rattle.monitor.specs.declared.Instance.{Instance}
+use Rattle.monitor.specs.declared.Monitor.{Monitor}
+use Rattle.monitor.specs.declared.Event.{Event}
+use Rattle.monitor.specs.declared.Event.the-variants.{Acts, Grants, Revokes, Closes, Malformed}
+use Rattle.monitor.specs.Configurations.{configurationOk}
+use Rattle.monitor.specs.Instances.{policyOf, takenOf, term, notedFor, tried, withAction, instanceOk}
+use Rattle.monitor.specs.Events.{ownRefusals, configured, advanced, workspaceAfter, Outcome}
+use Rattle.monitor.specs.Statuses.{letterOf}
+
+-- the workspace can be filled for the taken actions
+pub record Fillable (i : Instance) (before : List ℕ) : Type 0 where
+  pub words-most : i .words ≤ 31
+  pub fills : So (lengthOk (length (policyOf i)) && (leb (i .taken) 12 && isFillable (decode (policyOf i)) (takenOf i) before))
+
+-- the taken actions evaluated: what holds of them, and the workspace that speaks of them
+pub record Evaluated (i : Instance) (isSatisfied isPossible : Bool) (before after : List ℕ) : Type 0 where
+  pub is-satisfied : isSatisfied ≡ satisfied (term i) 0 (takenOf i)
+  pub is-possible : isPossible ≡ possible (term i) 0 (takenOf i)
+  pub workspace : after ≡ filled (term i) (takenOf i) before
+
+-- none of 12 and 15 applies to the two parts
+pub record Admitted (c : Configuration) (i : Instance) (before : List ℕ) : Type 0 where
+  pub long : 8192 ≤ length before
+  pub configuration-ok : So (configurationOk c)
+  pub instance-ok : So (instanceOk c i)
+
+-- what an event to which 7 does not apply names is declared
+abbrev pub Entered : Configuration → Event → Type 0
+Entered c (Acts u a) = u < c .users
+Entered c (Grants u r) = (u < c .users) × (r < c .roles)
+Entered c (Revokes u r) = (u < c .users) × (r < c .roles)
+Entered c Closes = Unit
+Entered c Malformed = ⊥
+
+-- the status of an instance: its number and letter, and the workspace that speaks of the taken actions
+pub record Stated (i : Instance) (number letter : ℕ) (before after : List ℕ) : Type 0 where
+  pub is-accepted : number ≡ 0
+  pub is-letter : letter ≡ letterOf i
+  pub workspace : after ≡ filled (term i) (takenOf i) before
+
+-- one more action tried: the instance with it, whether the actions are possible, and the workspace that speaks of them
+pub record Trial (c : Configuration) (i : Instance) (u : ℕ) (with-it : Instance) (isPossible : Bool) (before after : List ℕ) : Type 0 where
+  pub is-with : with-it ≡ withAction i (notedFor c i u)
+  pub is-possible : isPossible ≡ possible (term i) 0 (tried c i u)
+  pub workspace : after ≡ filled (term i) (tried c i u) before
+
+-- what an event gives to an instance to which none of 12, 15, 10 and 7 applies
+pub record InstanceOutcome : Type 0 where
+  pub code : ℕ
+  pub instance : Instance
+  pub workspace : List ℕ
+
+abbrev pub ownOutcome : Configuration → Instance → Event → List ℕ → InstanceOutcome
+ownOutcome c i e before = record {
+  code = code (ownRefusals c i e);
+  instance = cond (eqb (code (ownRefusals c i e)) 0) (advanced c i e) i;
+  workspace = workspaceAfter c i e (code (ownRefusals c i e)) before;
+}
+
+-- an action by user u, whatever its number
+abbrev pub Acted : Configuration → Instance → ℕ → List ℕ → InstanceOutcome → Type 0
+Acted c i u before r = (a : ℕ) → r ≡ ownOutcome c i (Acts u a) before
+
+-- what an event gives to such a monitor
+abbrev pub monitorOutcome : Monitor → Event → List ℕ → Outcome
+monitorOutcome m e before = record {
+  code = code (ownRefusals (m .configuration) (m .instance) e);
+  monitor = cond (eqb (code (ownRefusals (m .configuration) (m .instance) e)) 0)
+      (record { configuration = configured (m .configuration) e; instance = advanced (m .configuration) (m .instance) e }) m;
+  workspace = workspaceAfter (m .configuration) (m .instance) e (code (ownRefusals (m .configuration) (m .instance) e)) before;
+}
+
+-- an instance with more actions, one after the other
+abbrev pub adding : Instance → List Action → Instance
+adding i [] = i
+adding i (a ∷ l) = adding (withAction i a) l

@@ -1,0 +1,175 @@
+// One event on a monitor: the refusals in order, and what it leaves.
+ghost use mathlib.Core.Path.{_≡_};
+ghost use Prim.Native.Nat.{_<_};
+ghost use Rattle.policy.specs.Refusals.{code};
+ghost use Rattle.monitor.specs.declared.Event.the-variants.{Closes};
+ghost use Rattle.monitor.specs.Events.{entry, outcome};
+ghost use Rattle.monitor.specs.Private.{Admitted, Trial, Acted, Entered, ownOutcome, monitorOutcome};
+use super::Answer;
+use super::Configuration;
+use super::Event;
+use super::Instance;
+use super::Monitor;
+use super::evaluation::evaluate;
+use super::events::read_event;
+use policy::codes;
+
+// 10 or 7 where one applies; else 0.
+fn enter(instance: Instance, event: Event) -> u8
+    ensures { λ r. ⌜ r ≡ code (entry instance event) ⌝ }
+{
+    if instance.is_closed() {
+        return codes::CLOSED;
+    }
+    match event {
+        Event::Malformed => codes::MALFORMED,
+        Event::Acts(_, _) => codes::ACCEPTED,
+        Event::Grants(_, _) => codes::ACCEPTED,
+        Event::Revokes(_, _) => codes::ACCEPTED,
+        Event::Closes => codes::ACCEPTED,
+    }
+}
+
+// An instance with one more action, and whether its actions are possible.
+struct Tried {
+    instance: Instance,
+    possible: bool,
+}
+
+// Tries an action by this user: the workspace speaks of the actions with it.
+fn try_action(
+    configuration: Configuration,
+    instance: Instance,
+    user: u8,
+    workspace: &mut [u32],
+) -> Tried
+    requires { ⌜ Admitted configuration instance (now workspace) × (instance .taken < 12) × (user < configuration .users) ⌝ }
+    ensures { λ r. ⌜ Trial configuration instance user (r .instance) (r .possible) (now (workspace .entry)) (now (workspace .exit)) ⌝ }
+{
+    let tried = instance.with_action(instance.noted(configuration, user));
+    let evaluation = evaluate(tried, workspace);
+    Tried {
+        instance: tried,
+        possible: evaluation.possible,
+    }
+}
+
+// An event's number, and the instance that it leaves.
+struct Moved {
+    code: u8,
+    instance: Instance,
+}
+
+// An action by a declared user.
+fn act(configuration: Configuration, instance: Instance, user: u8, workspace: &mut [u32]) -> Moved
+    requires { ⌜ Admitted configuration instance (now workspace) × (user < configuration .users) ⌝ }
+    ensures { λ r. ⌜ Acted configuration instance user (now (workspace .entry)) (record { code = r .code; instance = r .instance; workspace = now (workspace .exit) }) ⌝ }
+{
+    if 12 <= instance.taken {
+        return Moved {
+            code: codes::FULL,
+            instance,
+        };
+    }
+    let tried = try_action(configuration, instance, user, workspace);
+    if !tried.possible {
+        return Moved {
+            code: codes::NOT_POSSIBLE,
+            instance,
+        };
+    }
+    let next = tried.instance;
+    Moved {
+        code: codes::ACCEPTED,
+        instance: next,
+    }
+}
+
+// A close.
+fn close(configuration: Configuration, instance: Instance, workspace: &mut [u32]) -> Moved
+    requires { ⌜ Admitted configuration instance (now workspace) ⌝ }
+    ensures { λ r. ⌜ record { code = r .code; instance = r .instance; workspace = now (workspace .exit) } ≡ ownOutcome configuration instance Closes (now (workspace .entry)) ⌝ }
+{
+    let evaluation = evaluate(instance, workspace);
+    if !evaluation.satisfied {
+        return Moved {
+            code: codes::NOT_SATISFIED,
+            instance,
+        };
+    }
+    Moved {
+        code: codes::ACCEPTED,
+        instance: instance.as_closed(),
+    }
+}
+
+// An answer with this configuration and this instance.
+fn answer(code: u8, configuration: Configuration, instance: Instance) -> Answer
+    ensures { λ r. ⌜ r ≡ record { code = code; monitor = record { configuration = configuration; instance = instance } } ⌝ }
+{
+    Answer {
+        code,
+        monitor: Monitor {
+            configuration,
+            instance,
+        },
+    }
+}
+
+// An event to which none of 12, 15, 10 and 7 applies.
+fn perform(monitor: Monitor, event: Event, workspace: &mut [u32]) -> Answer
+    requires { ⌜ Admitted (monitor .configuration) (monitor .instance) (now workspace) × Entered (monitor .configuration) event ⌝ }
+    ensures { λ r. ⌜ record { code = r .code; monitor = r .monitor; workspace = now (workspace .exit) } ≡ monitorOutcome monitor event (now (workspace .entry)) ⌝ }
+{
+    let configuration = monitor.configuration;
+    let instance = monitor.instance;
+    match event {
+        Event::Acts(user, _) => {
+            let moved = act(configuration, instance, user, workspace);
+            let next = moved.instance;
+            answer(moved.code, configuration, next)
+        }
+        Event::Grants(user, role) => answer(
+            codes::ACCEPTED,
+            configuration.with_grant(user, role),
+            instance,
+        ),
+        Event::Revokes(user, role) => answer(
+            codes::ACCEPTED,
+            configuration.without_grant(user, role),
+            instance,
+        ),
+        Event::Closes => {
+            let moved = close(configuration, instance, workspace);
+            let next = moved.instance;
+            answer(moved.code, configuration, next)
+        }
+        Event::Malformed => answer(codes::MALFORMED, configuration, instance),
+    }
+}
+
+impl Monitor {
+    // One event: its number and the monitor that it leaves. The workspace speaks of the actions that were evaluated.
+    pub fn event(self, word: u32, workspace: &mut [u32]) -> Answer
+        ensures { λ r. ⌜ record { code = r .code; monitor = r .monitor; workspace = now (workspace .exit) } ≡ outcome self word (now (workspace .entry)) ⌝ }
+    {
+        let refusal = self.admit(workspace.len());
+        if refusal != codes::ACCEPTED {
+            return Answer {
+                code: refusal,
+                monitor: self,
+            };
+        }
+        let configuration = self.configuration;
+        let event = read_event(configuration.users, configuration.roles, word);
+        let instance = self.instance;
+        let refusal = enter(instance, event);
+        if refusal != codes::ACCEPTED {
+            return Answer {
+                code: refusal,
+                monitor: self,
+            };
+        }
+        perform(self, event, workspace)
+    }
+}
