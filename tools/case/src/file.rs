@@ -1,15 +1,19 @@
 //! The bytes of a case file: three pairs of offset and length, then policy, grants and events.
 
+use crate::names::Counts;
+
 /// The bytes of the three pairs.
 const PAIRS: usize = 12;
 /// The most bytes of a case file.
 const MOST_BYTES: usize = 4096;
 /// The most bytes of its events.
 const MOST_EVENT_BYTES: usize = 1024;
+/// The most events.
+pub const MOST_EVENTS: usize = MOST_EVENT_BYTES / 4;
 /// The parts, in order.
 const PARTS: [&str; 3] = ["policy", "grants", "events"];
 
-/// What a case file says. Whether an opening accepts it is the judge's matter.
+/// What a case file says. Whether an opening accepts it is the library's matter.
 #[derive(Clone, Debug, Default, PartialEq, Eq)]
 pub struct Case {
     /// The number of users.
@@ -22,6 +26,13 @@ pub struct Case {
     pub grants: Vec<u16>,
     /// The event words.
     pub events: Vec<u32>,
+}
+
+impl Case {
+    /// How many users and roles it declares.
+    pub fn counts(&self) -> Counts {
+        Counts { users: self.users, roles: self.roles }
+    }
 }
 
 /// The number of 16 bits at this place, low byte first.
@@ -89,22 +100,12 @@ pub fn read(bytes: &[u8]) -> Result<Case, String> {
     })
 }
 
-/// The bytes of a case file.
-///
-/// # Errors
-/// Why no case file can hold the case.
-pub fn write(case: &Case) -> Result<Vec<u8>, String> {
+/// The bytes of a case that a text said, whose limits keep it far below the most bytes.
+pub fn write(case: &Case) -> Vec<u8> {
     let policy: Vec<u8> = case.policy.iter().flat_map(|word| word.to_le_bytes()).collect();
     let rows = case.grants.iter().flat_map(|row| row.to_le_bytes());
     let grants: Vec<u8> = [case.users, case.roles].into_iter().chain(rows).collect();
     let events: Vec<u8> = case.events.iter().flat_map(|word| word.to_le_bytes()).collect();
-    let length = PAIRS + policy.len() + grants.len() + events.len();
-    if length > MOST_BYTES {
-        return Err(format!("the case file would have {length} bytes, more than {MOST_BYTES}"));
-    }
-    if events.len() > MOST_EVENT_BYTES {
-        return Err(format!("{} events, more than {}", case.events.len(), MOST_EVENT_BYTES / 4));
-    }
     let mut bytes = Vec::new();
     let mut offset = PAIRS;
     for part in [&policy, &grants, &events] {
@@ -112,6 +113,7 @@ pub fn write(case: &Case) -> Result<Vec<u8>, String> {
         bytes.extend((part.len() as u16).to_le_bytes());
         offset += part.len();
     }
+    assert!(offset <= MOST_BYTES, "a text's limits keep its case file short");
     bytes.extend([policy, grants, events].concat());
-    Ok(bytes)
+    bytes
 }

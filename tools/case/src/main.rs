@@ -1,5 +1,6 @@
-//! Makes case files (01, "Case file and program") from readable text, and shows case files as such
-//! text: `case write < TEXT > CASE` and `case show < CASE > TEXT`.
+//! A policy author's tool. It makes case files (01, "Case file and program") from readable text and
+//! shows them as such text, runs them through the linked library, and prints a policy's words and
+//! its normal form. `case --help` lists the verbs.
 //!
 //! A text has five parts, each begun by its name; `#` begins a comment.
 //!
@@ -15,79 +16,118 @@
 //! events
 //!   act 0 1
 //!   grant 1 2
-//!   withdraw 1 2
+//!   revoke 1 2
 //!   close
 //! ```
 //!
 //! A policy is a list of words in prefix order, in 01's names. Parentheses after a word hold its
-//! sides and are checked; they may be left out. `word 0x0a000000` is any policy or event word, so
-//! that refused policies and damaged events can be written too. A text of the single part `bytes`
-//! is any file, malformed or not.
+//! sides and are checked; they may be left out. `revoke` may also be called `withdraw`. What a text
+//! names must be declared, and nothing may be missing or too many; `word 0x0a000000` is any policy
+//! or event word, so that refused policies and damaged events can be written too. A text of the
+//! single part `bytes` is any file, malformed or not.
 
 #![forbid(unsafe_code)]
 
+mod arguments;
 mod file;
+mod monitor;
 mod names;
+mod policy;
+mod quote;
+mod run;
 mod show;
+mod streams;
 #[cfg(test)]
 mod tests;
 mod text;
+mod tokens;
+mod words;
 
-use std::io::{Read, Write};
+use std::ffi::OsString;
+use std::io::Write;
 use std::process::ExitCode;
 
-/// What the program can do.
-const USAGE: &str = "usage: case write < TEXT > CASE
-       case show < CASE > TEXT";
+use arguments::{Command, Verb, USAGE};
+use file::Case;
+use monitor::Refused;
 
 fn main() -> ExitCode {
-    let arguments: Vec<String> = std::env::args().skip(1).collect();
-    let arguments: Vec<&str> = arguments.iter().map(String::as_str).collect();
-    let done = match arguments[..] {
-        ["write"] => run_write(),
-        ["show"] => run_show(),
-        _ => {
-            eprintln!("{USAGE}");
+    let arguments: Vec<OsString> = std::env::args_os().skip(1).collect();
+    let command = match arguments::parse(&arguments) {
+        Ok(command) => command,
+        Err(message) => {
+            complain(&format!("{message}\n\n{USAGE}"));
             return ExitCode::from(2);
         }
     };
-    match done {
-        Ok(()) => ExitCode::SUCCESS,
+    match obey(&command) {
+        Ok(true) => ExitCode::SUCCESS,
+        Ok(false) => ExitCode::FAILURE,
         Err(message) => {
-            eprintln!("case: {message}");
+            complain(&format!("{message}\n"));
             ExitCode::FAILURE
         }
     }
 }
 
-/// All of standard input.
-fn input() -> Result<Vec<u8>, String> {
-    let mut bytes = Vec::new();
-    std::io::stdin().lock().read_to_end(&mut bytes).map_err(|error| error.to_string())?;
-    Ok(bytes)
+/// Writes a message. Where nobody can be told, the exit status remains.
+fn complain(message: &str) {
+    let _ = write!(std::io::stderr(), "case: {message}");
 }
 
-/// Writes to standard output.
-fn output(bytes: &[u8]) -> Result<(), String> {
-    std::io::stdout().write_all(bytes).map_err(|error| error.to_string())
+/// Does what is to be done. Whether all is well with what was read.
+fn obey(command: &Command) -> Result<bool, String> {
+    let input = match command.verb {
+        Verb::Help => vec![],
+        _ => streams::input(command.input.as_deref())?,
+    };
+    let (printed, well) = answer(command.verb, &input)?;
+    streams::output(command.output.as_deref(), &printed)?;
+    Ok(well)
 }
 
-/// Text to case file.
-fn run_write() -> Result<(), String> {
-    let bytes = input()?;
-    let text = std::str::from_utf8(&bytes).map_err(|_| "the text is not UTF-8".to_string())?;
-    output(&text::write(text).map_err(|fault| fault.to_string())?)
-}
-
-/// Case file to text. A malformed file is shown as bytes with the reason, and is an error all the
-/// same.
-fn run_show() -> Result<(), String> {
-    let bytes = input()?;
-    match file::read(&bytes) {
-        Ok(case) => output(show::case(&case).as_bytes()),
-        Err(reason) => {
-            output(show::malformed(&reason, &bytes).as_bytes())?;
-            Err(format!("malformed (14): {reason}"))
+/// What is printed for an input, and whether all is well with it.
+fn answer(verb: Verb, input: &[u8]) -> Result<(Vec<u8>, bool), String> {
+    match verb {
+        Verb::Help => Ok((USAGE.into(), true)),
+        Verb::Write => Ok((written(input)?, true)),
+        Verb::Show => {
+            let shown = show::file(input);
+            Ok((shown.text.into(), shown.malformed.is_none()))
         }
+        Verb::Run if text::is_case_file(input) => Ok(ran(input)),
+        Verb::Run => Ok(ran(&written(input)?)),
+        Verb::Words(language) => {
+            let (case, _) = accepted_policy(input)?;
+            Ok((words::array(language, &case.policy, case.counts()).into(), true))
+        }
+        Verb::Normal => {
+            let (case, normal) = accepted_policy(input)?;
+            Ok(((show::term(&normal, case.counts(), 0) + "\n").into(), true))
+        }
+    }
+}
+
+/// The case file that a text says.
+fn written(input: &[u8]) -> Result<Vec<u8>, String> {
+    text::decode(input).and_then(text::write).map_err(|fault| fault.to_string())
+}
+
+/// What is printed of a case file's run, and whether it was accepted.
+fn ran(bytes: &[u8]) -> (Vec<u8>, bool) {
+    let report = run::report(bytes);
+    (report.text.into(), report.accepted)
+}
+
+/// The policy of an input, which the library accepts, and its normal form.
+fn accepted_policy(input: &[u8]) -> Result<(Case, Vec<u32>), String> {
+    let case = if text::is_case_file(input) {
+        file::read(input).map_err(|reason| format!("malformed (14): {reason}"))?
+    } else {
+        text::decode(input).and_then(text::policy_alone).map_err(|fault| fault.to_string())?
+    };
+    match monitor::normal_form(&case) {
+        Ok(normal) => Ok((case, normal)),
+        Err(Refused { number, sentence }) => Err(format!("refused {number}: {sentence}")),
     }
 }

@@ -1,39 +1,69 @@
-//! The names of policy words and event words (01's names).
+//! The names of policy words and event words: 01's names, and `revoke`, which 01 calls `withdraw`.
 
-/// The names of the kinds of policy words from kind 1 on.
-const TERMS: [&str; 9] =
-    ["everyone", "role", "set", "not", "plus", "either", "both", "together", "apart"];
+/// The kinds of policy words from kind 1 on: the name, and how many sides follow.
+const TERMS: [(&str, usize); 9] = [
+    ("everyone", 0),
+    ("role", 0),
+    ("set", 0),
+    ("not", 1),
+    ("plus", 1),
+    ("either", 2),
+    ("both", 2),
+    ("together", 2),
+    ("apart", 2),
+];
 /// The names of the kinds of event words from kind 1 on.
-const EVENTS: [&str; 4] = ["act", "grant", "withdraw", "close"];
+const EVENTS: [&str; 4] = ["act", "grant", "revoke", "close"];
 /// The kind of a role.
 pub const ROLE: u32 = 2;
 /// The kind of a set.
 pub const SET: u32 = 3;
+/// The kind of an action.
+pub const ACTION: u32 = 1;
 /// The kind of a close.
 pub const CLOSE: u32 = 4;
 
-/// The kind that a name stands for.
-fn kind_of(names: &[&str], name: &str) -> Option<u32> {
-    names.iter().position(|own| *own == name).map(|place| place as u32 + 1)
+/// How many users and roles are declared.
+#[derive(Clone, Copy, Debug)]
+pub struct Counts {
+    /// The users.
+    pub users: u8,
+    /// The roles.
+    pub roles: u8,
+}
+
+impl Counts {
+    /// Whether this user is declared.
+    fn has_user(self, user: u32) -> bool {
+        user < u32::from(self.users)
+    }
+
+    /// Whether this role is declared.
+    fn has_role(self, role: u32) -> bool {
+        role < u32::from(self.roles)
+    }
 }
 
 /// The kind of a policy word with this name.
 pub fn term_kind(name: &str) -> Option<u32> {
-    kind_of(&TERMS, name)
+    TERMS.iter().zip(1..).find(|((own, _), _)| *own == name).map(|(_, kind)| kind)
 }
 
 /// The kind of an event word with this name.
 pub fn event_kind(name: &str) -> Option<u32> {
-    kind_of(&EVENTS, name)
+    let name = if name == "withdraw" { "revoke" } else { name };
+    EVENTS.iter().zip(1..).find(|(own, _)| **own == name).map(|(_, kind)| kind)
+}
+
+/// What the table has of a policy word's kind.
+fn term(word: u32) -> Option<(&'static str, usize)> {
+    let place = (word >> 24).checked_sub(1)?;
+    TERMS.get(place as usize).copied()
 }
 
 /// How many sides follow a policy word; a word of an unknown kind has none.
 pub fn sides(word: u32) -> usize {
-    match word >> 24 {
-        4 | 5 => 1,
-        6..=9 => 2,
-        _ => 0,
-    }
+    term(word).map_or(0, |(_, sides)| sides)
 }
 
 /// Whether the words are exactly one term: each word fills one open place and opens one a side.
@@ -54,28 +84,37 @@ fn raw(word: u32) -> String {
     format!("word {word:#010x}")
 }
 
-/// A policy word by name.
-pub fn term_word(word: u32) -> String {
-    let operand = word & 0xffff;
-    let name = (word >> 24).checked_sub(1).and_then(|place| TERMS.get(place as usize));
-    match (name, word >> 24) {
-        (Some(name), ROLE) if word >> 16 & 0xff == 0 => format!("{name} {operand}"),
-        (Some(name), SET) if word >> 16 & 0xff == 0 && operand != 0 => {
-            let users = (0..16).filter(|user| operand >> user & 1 == 1);
-            users.fold(name.to_string(), |text, user| format!("{text} {user}"))
+/// The numbers of the bits that are set, each behind a blank.
+pub fn members(bits: u32) -> String {
+    let set = (0..u32::BITS).filter(|bit| bits >> bit & 1 == 1);
+    set.map(|bit| format!(" {bit}")).collect()
+}
+
+/// A policy word by name, where a text may name it.
+pub fn term_word(word: u32, counts: Counts) -> String {
+    let (kind, operand) = (word >> 24, word & 0x00ff_ffff);
+    match (term(word), kind) {
+        (Some((name, _)), ROLE) if counts.has_role(operand) => format!("{name} {operand}"),
+        (Some((name, _)), SET) if operand != 0 && counts.has_user(operand.ilog2()) => {
+            name.to_string() + &members(operand)
         }
-        (Some(name), kind) if word == kind << 24 && kind != SET => name.to_string(),
+        (Some((name, _)), _) if operand == 0 && kind != ROLE && kind != SET => name.to_string(),
         _ => raw(word),
     }
 }
 
-/// An event word by name.
-pub fn event_word(word: u32) -> String {
-    let [low, user, zero, kind] = word.to_le_bytes();
-    let name = kind.checked_sub(1).and_then(|place| EVENTS.get(usize::from(place)));
+/// An event word by name, where a text may name it.
+pub fn event_word(word: u32, counts: Counts) -> String {
+    let [low, user, zero, kind] = word.to_le_bytes().map(u32::from);
+    let name = EVENTS.iter().zip(1..).find(|(_, own)| *own == kind).map(|(name, _)| *name);
+    let declared = match kind {
+        CLOSE => word == CLOSE << 24,
+        ACTION => counts.has_user(user),
+        _ => counts.has_user(user) && counts.has_role(low),
+    };
     match name {
-        Some(name) if word == CLOSE << 24 => name.to_string(),
-        Some(name) if zero == 0 && u32::from(kind) != CLOSE => format!("{name} {user} {low}"),
+        Some(name) if declared && kind == CLOSE => name.to_string(),
+        Some(name) if declared && zero == 0 => format!("{name} {user} {low}"),
         _ => raw(word),
     }
 }

@@ -1,31 +1,59 @@
 //! Case to text.
 
-use crate::file::Case;
-use crate::names::{event_word, is_one_term, sides, term_word};
+use crate::file::{self, Case};
+use crate::monitor::MOST_WORDS;
+use crate::names::{event_word, is_one_term, members, sides, term_word, Counts};
+use crate::text;
 
 /// The columns within which a term stays on one line.
 const WIDTH: usize = 72;
 
+/// A file as text.
+pub struct Shown {
+    /// The text, from which the same file is written again.
+    pub text: String,
+    /// What is malformed.
+    pub malformed: Option<String>,
+}
+
+/// Shows a file. One that no other text says is shown as its bytes.
+pub fn file(bytes: &[u8]) -> Shown {
+    let case = match file::read(bytes) {
+        Ok(case) => case,
+        Err(reason) => {
+            let text = format!("# malformed (14): {reason}\n{}", raw(bytes));
+            return Shown { text, malformed: Some(reason) };
+        }
+    };
+    let text = self::case(&case);
+    let text = match text::write(&text) {
+        Ok(_) => text,
+        Err(fault) => {
+            let lines: String = text.lines().map(|line| format!("#   {line}\n")).collect();
+            format!("# only bytes say this, since {}\n{lines}{}", fault.message, raw(bytes))
+        }
+    };
+    Shown { text, malformed: None }
+}
+
 /// The text of a case.
-pub fn case(case: &Case) -> String {
+fn case(case: &Case) -> String {
     let mut text = format!("users {}\nroles {}\npolicy\n", case.users, case.roles);
-    text += &policy(&case.policy);
+    text += &policy(&case.policy, case.counts());
     text += "grants\n";
     for (user, row) in case.grants.iter().enumerate() {
-        let roles = (0..16).filter(|role| row >> role & 1 == 1);
-        text += &roles.fold(format!("  {user}:"), |line, role| format!("{line} {role}"));
-        text += "\n";
+        text += &format!("  {user}:{}\n", members(u32::from(*row)));
     }
     text += "events\n";
     for word in &case.events {
-        text += &format!("  {}\n", event_word(*word));
+        text += &format!("  {}\n", event_word(*word, case.counts()));
     }
     text
 }
 
-/// The text of a malformed file: the reason, and the bytes as they are.
-pub fn malformed(reason: &str, bytes: &[u8]) -> String {
-    let mut text = format!("# malformed (14): {reason}\nbytes\n");
+/// The text that says all bytes of a file.
+fn raw(bytes: &[u8]) -> String {
+    let mut text = "bytes\n".to_string();
     for line in bytes.chunks(16) {
         let line: Vec<String> = line.iter().map(|byte| format!("{byte:02x}")).collect();
         text += &format!("  {}\n", line.join(" "));
@@ -35,24 +63,30 @@ pub fn malformed(reason: &str, bytes: &[u8]) -> String {
 
 /// The lines of a policy: a term with its sides in parentheses, or, where the words are not one
 /// term, a word a line.
-fn policy(words: &[u32]) -> String {
-    if is_one_term(words) {
-        return format!("  {}\n", term(&mut words.iter(), 2));
+fn policy(words: &[u32], counts: Counts) -> String {
+    if words.len() <= MOST_WORDS && is_one_term(words) {
+        return format!("  {}\n", term(words, counts, 2));
     }
-    words.iter().map(|word| format!("  {}\n", term_word(*word))).collect()
+    words.iter().map(|word| format!("  {}\n", term_word(*word, counts))).collect()
 }
 
-/// The next term of the words; its lines behind the first begin in this column or further right.
-fn term(words: &mut std::slice::Iter<u32>, column: usize) -> String {
+/// The words of a term; its lines behind the first begin in this column or further right.
+pub fn term(words: &[u32], counts: Counts, column: usize) -> String {
+    next_term(&mut words.iter(), counts, column)
+}
+
+/// The next term of the words.
+fn next_term(words: &mut std::slice::Iter<u32>, counts: Counts, column: usize) -> String {
     let Some(&word) = words.next() else {
         return String::new();
     };
-    let name = term_word(word);
+    let name = term_word(word, counts);
     match sides(word) {
         0 => name,
-        1 => format!("{name} {}", term(words, column)),
+        1 => format!("{name} {}", next_term(words, counts, column)),
         _ => {
-            let (left, right) = (term(words, column + 2), term(words, column + 2));
+            let left = next_term(words, counts, column + 2);
+            let right = next_term(words, counts, column + 2);
             joined(&name, &left, &right, column)
         }
     }

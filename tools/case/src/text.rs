@@ -1,285 +1,139 @@
 //! Text to case.
 
-use std::collections::BTreeSet;
-use std::fmt;
+use crate::file::{self, Case, MOST_EVENTS};
+use crate::monitor::{MOST_ROLES, MOST_USERS};
+use crate::names::{event_kind, Counts, ACTION, CLOSE};
+use crate::policy;
+use crate::quote::quoted;
+use crate::tokens::{declared, fault, number, parts, Fault, Part, Parts, Token};
 
-use crate::file::{self, Case};
-use crate::names::{event_kind, is_one_term, sides, term_kind, term_word, CLOSE, ROLE, SET};
+/// Byte order marks, and whose they are.
+const ORDER_MARKS: [(&[u8], &str); 3] =
+    [(b"\xef\xbb\xbf", "UTF-8"), (b"\xff\xfe", "UTF-16"), (b"\xfe\xff", "UTF-16")];
 
-/// What is wrong with a text, and in which line.
-#[derive(Clone, Debug, PartialEq, Eq)]
-pub struct Fault {
-    /// The line, from 1.
-    pub line: usize,
-    /// What is wrong.
-    pub message: String,
+/// Whether the bytes are meant as a case file: a text has no zero byte, but in UTF-16.
+pub fn is_case_file(bytes: &[u8]) -> bool {
+    bytes.contains(&0) && !ORDER_MARKS.iter().any(|(mark, _)| bytes.starts_with(mark))
 }
 
-impl fmt::Display for Fault {
-    fn fmt(&self, formatter: &mut fmt::Formatter) -> fmt::Result {
-        write!(formatter, "line {}: {}", self.line, self.message)
+/// The text in these bytes.
+///
+/// # Errors
+/// If they are no text.
+pub fn decode(bytes: &[u8]) -> Result<&str, Fault> {
+    if let Some((_, whose)) = ORDER_MARKS.iter().find(|(mark, _)| bytes.starts_with(mark)) {
+        let message = format!("a byte order mark of {whose}: save the text as UTF-8 without it");
+        return fault(1, message);
     }
-}
-
-/// A fault in a line.
-fn fault<T>(line: usize, message: impl Into<String>) -> Result<T, Fault> {
-    Err(Fault { line, message: message.into() })
-}
-
-/// The names with which parts begin.
-const PARTS: [&str; 6] = ["users", "roles", "policy", "grants", "events", "bytes"];
-
-/// A word or sign of the text, and its line.
-#[derive(Clone, Copy, Debug)]
-struct Token<'a> {
-    line: usize,
-    text: &'a str,
-}
-
-/// A part of the text: the line of its name, and what follows it.
-#[derive(Default)]
-struct Part<'a> {
-    line: usize,
-    tokens: Vec<Token<'a>>,
-}
-
-impl<'a> Part<'a> {
-    /// The tokens line by line.
-    fn lines(&self) -> impl Iterator<Item = &[Token<'a>]> {
-        self.tokens.chunk_by(|one, next| one.line == next.line)
+    let line = |place: usize| 1 + bytes[..place].iter().filter(|byte| **byte == b'\n').count();
+    if let Some(place) = bytes.iter().position(|byte| *byte == 0) {
+        return fault(line(place), "a zero byte, which no text has");
     }
+    std::str::from_utf8(bytes)
+        .or_else(|error| fault(line(error.valid_up_to()), "a byte that is not UTF-8"))
 }
 
-/// The tokens of a line: signs stand for themselves, all else is parted by blanks.
-fn tokens(line: usize, text: &str) -> Vec<Token<'_>> {
-    let text = text.split('#').next().unwrap_or_default();
-    let is_sign = |c: char| "(),:".contains(c);
-    let mut found = Vec::new();
-    for piece in text.split_whitespace() {
-        for piece in piece.split_inclusive(is_sign) {
-            let name = piece.trim_end_matches(is_sign);
-            let sign = &piece[name.len()..];
-            let both = [name, sign].into_iter().filter(|text| !text.is_empty());
-            found.extend(both.map(|text| Token { line, text }));
-        }
-    }
-    found
-}
-
-/// The text taken apart.
-fn parts(text: &str) -> Result<[Option<Part<'_>>; 6], Fault> {
-    let mut found: [Option<Part>; 6] = Default::default();
-    let mut current = None;
-    for (place, line) in text.lines().enumerate() {
-        let mut tokens = tokens(place + 1, line);
-        let Some(first) = tokens.first().copied() else {
-            continue;
-        };
-        if let Some(part) = PARTS.iter().position(|name| *name == first.text) {
-            if found[part].is_some() {
-                return fault(first.line, format!("`{}` stands here a second time", first.text));
-            }
-            found[part] = Some(Part { line: first.line, tokens: vec![] });
-            current = Some(part);
-            tokens.remove(0);
-        }
-        match current.and_then(|part| found[part].as_mut()) {
-            Some(part) => part.tokens.extend(tokens),
-            None => {
-                return fault(first.line, format!("`{}`, but no part has begun", first.text));
-            }
-        }
-    }
-    Ok(found)
-}
-
-/// A number from 0 to a most, decimal or hexadecimal.
-fn number(token: Token, most: u32) -> Result<u32, Fault> {
-    let parsed = match token.text.strip_prefix("0x") {
-        Some(digits) => u32::from_str_radix(digits, 16),
-        None => token.text.parse(),
+/// A part that is one number from 1 to a most.
+fn count(name: &str, part: &Part, most: usize) -> Result<u8, Fault> {
+    let [token] = part.tokens[..] else {
+        return fault(part.line, format!("`{name}` is followed by one number"));
     };
-    match parsed {
-        Ok(number) if number <= most => Ok(number),
-        Ok(number) => fault(token.line, format!("{number} is above {most}")),
-        Err(_) => fault(token.line, format!("`{}` is no number from 0 to {most}", token.text)),
+    match number(token, most as u32) {
+        Ok(count @ 1..) => Ok(count as u8),
+        _ => {
+            let said = quoted(token.text);
+            fault(token.line, format!("{said} is no number of {name} from 1 to {most}"))
+        }
     }
 }
 
-/// A part that is one number of a byte.
-fn count(name: &str, part: &Part) -> Result<u8, Fault> {
-    match part.tokens[..] {
-        [token] => number(token, 255).map(|number| number as u8),
-        _ => fault(part.line, format!("`{name}` wants one number")),
-    }
+/// How many users and roles a text declares.
+fn counts(parts: &Parts) -> Result<Counts, Fault> {
+    let users = count("users", parts.need("users")?, MOST_USERS)?;
+    let roles = count("roles", parts.need("roles")?, MOST_ROLES)?;
+    Ok(Counts { users, roles })
 }
 
-/// The policy: a reader of its tokens.
-struct PolicyReader<'a> {
-    tokens: &'a [Token<'a>],
-    line: usize,
-}
-
-impl PolicyReader<'_> {
-    /// The next token, left where it is.
-    fn peek(&self) -> Option<&str> {
-        self.tokens.first().map(|token| token.text)
-    }
-
-    /// The line of the next token, or of the last one.
-    fn here(&self) -> usize {
-        self.tokens.first().map_or(self.line, |token| token.line)
-    }
-
-    /// The next token, taken.
-    fn next(&mut self) -> Option<Token<'_>> {
-        let (first, rest) = self.tokens.split_first()?;
-        self.tokens = rest;
-        self.line = first.line;
-        Some(*first)
-    }
-
-    /// Takes a sign that must stand here.
-    fn sign(&mut self, sign: &str) -> Result<(), Fault> {
-        if self.peek() == Some(sign) {
-            self.next();
-            return Ok(());
-        }
-        fault(
-            self.here(),
-            format!("`{sign}` is missing before `{}`", self.peek().unwrap_or("the end")),
-        )
-    }
-
-    /// The words up to a sign that is not theirs, or the end.
-    fn words(&mut self) -> Result<Vec<u32>, Fault> {
-        let mut words = Vec::new();
-        while self.peek().is_some_and(|text| !"(),:".contains(text)) {
-            let word = self.word()?;
-            words.push(word);
-            if self.peek() == Some("(") {
-                words.extend(self.sides_of(word)?);
-            }
-        }
-        Ok(words)
-    }
-
-    /// A word with its operand.
-    fn word(&mut self) -> Result<u32, Fault> {
-        let name = self.next().map_or("", |token| token.text).to_string();
-        match term_kind(&name) {
-            Some(ROLE) => Ok(ROLE << 24 | self.operand(0xffff)?),
-            Some(SET) => {
-                let mut users = 1 << self.operand(15)?;
-                while self.peek().is_some_and(|text| text.starts_with(|c: char| c.is_ascii_digit()))
-                {
-                    users |= 1 << self.operand(15)?;
-                }
-                Ok(SET << 24 | users)
-            }
-            Some(kind) => Ok(kind << 24),
-            None if name == "word" => self.operand(u32::MAX),
-            None => fault(self.line, format!("`{name}` is no policy word")),
-        }
-    }
-
-    /// A number that must stand here.
-    fn operand(&mut self, most: u32) -> Result<u32, Fault> {
-        let line = self.line;
-        match self.next() {
-            Some(token) => number(token, most),
-            None => fault(line, "a number is missing at the end of the policy"),
-        }
-    }
-
-    /// The sides of a word in parentheses: as many as the word has, each one term.
-    fn sides_of(&mut self, word: u32) -> Result<Vec<u32>, Fault> {
-        let mut all = Vec::new();
-        for side in 0..sides(word) {
-            self.sign(if side == 0 { "(" } else { "," })?;
-            let line = self.here();
-            let words = self.words()?;
-            if !is_one_term(&words) {
-                let name = term_word(word);
-                return fault(line, format!("side {} of `{name}` is not one term", side + 1));
-            }
-            all.extend(words);
-        }
-        if all.is_empty() {
-            return fault(self.line, "parentheses after a word without sides");
-        }
-        self.sign(")")?;
-        Ok(all)
-    }
-}
-
-/// The words of a policy.
-fn policy(part: &Part) -> Result<Vec<u32>, Fault> {
-    let mut reader = PolicyReader { tokens: &part.tokens, line: part.line };
-    let words = reader.words()?;
-    match reader.next() {
-        None => Ok(words),
-        Some(token) => fault(token.line, format!("`{}` does not belong here", token.text)),
-    }
-}
-
-/// The rows of the grants, a line a user: `USER: ROLE ROLE ..`.
-fn grants(part: &Part) -> Result<Vec<u16>, Fault> {
+/// The rows of the grants, a line a user.
+fn grants(part: &Part, counts: Counts) -> Result<Vec<u16>, Fault> {
     let mut rows = Vec::new();
     for tokens in part.lines() {
-        let [user, colon, roles @ ..] = tokens else {
-            return fault(tokens[0].line, "a grant line is `USER: ROLE ROLE ..`");
+        let line = tokens[0].line;
+        let [user, Token { text: ":", .. }, roles @ ..] = tokens else {
+            return fault(line, "a line of the grants is `USER: ROLE ROLE ..`");
         };
-        if colon.text != ":" || number(*user, u32::MAX)? != rows.len() as u32 {
-            return fault(user.line, format!("the line of user {} is due here", rows.len()));
+        if declared(*user, "user", counts.users)? as usize != rows.len() {
+            return fault(line, format!("the line of user {} is due here", rows.len()));
         }
-        let mut held = BTreeSet::new();
-        for role in roles {
-            if !held.insert(number(*role, 15)?) {
-                return fault(role.line, format!("role {} stands here a second time", role.text));
-            }
-        }
-        rows.push(held.into_iter().fold(0, |row, role| row | 1 << role));
+        rows.push(row(roles, counts)?);
+    }
+    if rows.len() < usize::from(counts.users) {
+        let message = format!("the line of user {} is missing behind this one", rows.len());
+        return fault(part.last_line(), message);
     }
     Ok(rows)
 }
 
+/// The roles of one user.
+fn row(roles: &[Token], counts: Counts) -> Result<u16, Fault> {
+    let mut row = 0;
+    for token in roles {
+        let role = declared(*token, "role", counts.roles)?;
+        if row >> role & 1 == 1 {
+            return fault(token.line, format!("role {role} stands here a second time"));
+        }
+        row |= 1 << role;
+    }
+    Ok(row)
+}
+
 /// One event word from its line.
-fn event(tokens: &[Token]) -> Result<u32, Fault> {
-    let name = tokens[0].text;
+fn event(tokens: &[Token], counts: Counts) -> Result<u32, Fault> {
+    let Token { line, text: name } = tokens[0];
     match (event_kind(name), &tokens[1..]) {
         (Some(CLOSE), []) => Ok(CLOSE << 24),
-        (Some(CLOSE), _) => fault(tokens[0].line, "`close` stands alone"),
-        (Some(kind), [user, low]) => Ok(kind << 24 | number(*user, 255)? << 8 | number(*low, 255)?),
-        (Some(1), _) => fault(tokens[0].line, "an action is `act USER NUMBER`"),
-        (Some(_), _) => fault(tokens[0].line, format!("a line of this kind is `{name} USER ROLE`")),
+        (Some(CLOSE), _) => fault(line, "`close` stands alone"),
+        (Some(kind), [user, low]) => {
+            let user = declared(*user, "user", counts.users)?;
+            let low = match kind {
+                ACTION => number(*low, 255)?,
+                _ => declared(*low, "role", counts.roles)?,
+            };
+            Ok(kind << 24 | user << 8 | low)
+        }
+        (Some(ACTION), _) => fault(line, "an action is `act USER NUMBER`"),
+        (Some(_), _) => fault(line, format!("this event is `{name} USER ROLE`")),
         (None, [word]) if name == "word" => number(*word, u32::MAX),
-        (None, _) => fault(tokens[0].line, format!("`{name}` is no event")),
+        (None, _) if name == "word" => fault(line, "`word` is followed by one number"),
+        (None, _) => fault(line, format!("{} is no event", quoted(name))),
     }
+}
+
+/// The event words.
+fn events(part: &Part, counts: Counts) -> Result<Vec<u32>, Fault> {
+    if let Some(tokens) = part.lines().nth(MOST_EVENTS) {
+        return fault(tokens[0].line, format!("one event more than {MOST_EVENTS}"));
+    }
+    part.lines().map(|tokens| event(tokens, counts)).collect()
 }
 
 /// The bytes of a text that says them all.
 fn bytes(part: &Part) -> Result<Vec<u8>, Fault> {
+    let is_digit = |c: char| c.is_ascii_hexdigit();
     let byte = |token: &Token| match u8::from_str_radix(token.text, 16) {
-        Ok(byte) => Ok(byte),
-        Err(_) => fault(token.line, format!("`{}` is no byte from 00 to ff", token.text)),
+        Ok(byte) if token.text.chars().all(is_digit) => Ok(byte),
+        _ => fault(token.line, format!("{} is no byte from 00 to ff", quoted(token.text))),
     };
     part.tokens.iter().map(byte).collect()
 }
 
-/// The case that a text says.
-fn case(parts: &[Option<Part>; 5], last: usize) -> Result<Case, Fault> {
-    let part = |place: usize| match &parts[place] {
-        Some(part) => Ok(part),
-        None => fault(last, format!("the part `{}` is missing", PARTS[place])),
-    };
-    Ok(Case {
-        users: count("users", part(0)?)?,
-        roles: count("roles", part(1)?)?,
-        policy: policy(part(2)?)?,
-        grants: grants(part(3)?)?,
-        events: part(4)?.lines().map(event).collect::<Result<_, _>>()?,
-    })
+/// The bytes of a text that says them all, if it is one.
+fn raw(parts: &Parts) -> Result<Option<Vec<u8>>, Fault> {
+    match parts.get("bytes") {
+        None => Ok(None),
+        Some(part) if parts.count() == 1 => bytes(part).map(Some),
+        Some(part) => fault(part.line, "`bytes` stands alone, with no other part"),
+    }
 }
 
 /// The case file that a text says.
@@ -287,15 +141,30 @@ fn case(parts: &[Option<Part>; 5], last: usize) -> Result<Case, Fault> {
 /// # Errors
 /// The first fault of the text.
 pub fn write(text: &str) -> Result<Vec<u8>, Fault> {
-    let last = text.lines().count().max(1);
-    let [users, roles, policy, grants, events, raw] = parts(text)?;
-    let parts = [users, roles, policy, grants, events];
-    match raw {
-        None => {
-            let case = case(&parts, last)?;
-            file::write(&case).or_else(|message| fault(last, message))
-        }
-        Some(raw) if parts.iter().all(Option::is_none) => bytes(&raw),
-        Some(raw) => fault(raw.line, "`bytes` stands alone, with no other part"),
+    let parts = parts(text)?;
+    if let Some(bytes) = raw(&parts)? {
+        return Ok(bytes);
     }
+    let counts = counts(&parts)?;
+    Ok(file::write(&Case {
+        users: counts.users,
+        roles: counts.roles,
+        policy: policy::read(parts.need("policy")?, counts)?,
+        grants: grants(parts.need("grants")?, counts)?,
+        events: events(parts.need("events")?, counts)?,
+    }))
+}
+
+/// The counts and the policy of a text, whatever else it says or does not say.
+///
+/// # Errors
+/// The first fault of these.
+pub fn policy_alone(text: &str) -> Result<Case, Fault> {
+    let parts = parts(text)?;
+    if let Some(bytes) = raw(&parts)? {
+        return file::read(&bytes).or_else(|reason| fault(1, reason));
+    }
+    let counts = counts(&parts)?;
+    let policy = policy::read(parts.need("policy")?, counts)?;
+    Ok(Case { users: counts.users, roles: counts.roles, policy, ..Case::default() })
 }

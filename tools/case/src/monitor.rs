@@ -1,0 +1,88 @@
+//! The linked library, as far as this tool uses it. No other module names it.
+
+use oskhrein::{Instance, Refusal, Workspace};
+
+use crate::file::Case;
+
+/// The most words of a policy.
+pub const MOST_WORDS: usize = oskhrein::MAX_WORDS;
+/// The most users.
+pub const MOST_USERS: usize = oskhrein::MAX_USERS;
+/// The most roles.
+pub const MOST_ROLES: usize = oskhrein::MAX_USERS;
+
+/// A refusal: its number, and what that number says.
+#[derive(Clone, Debug, PartialEq, Eq)]
+pub struct Refused {
+    /// The number.
+    pub number: u8,
+    /// What it says.
+    pub sentence: String,
+}
+
+impl From<Refusal> for Refused {
+    /// What a number says of multisets is left out: none is tested here.
+    fn from(refusal: Refusal) -> Refused {
+        let sentence = refusal.to_string();
+        let own = sentence.split(';').next().unwrap_or_default();
+        Refused { number: refusal.number(), sentence: own.to_string() }
+    }
+}
+
+/// The refusal of a malformed case file.
+pub fn malformed() -> Refused {
+    Refusal::Case.into()
+}
+
+/// A case that was opened.
+pub struct Opened {
+    instance: Instance,
+    workspace: Workspace,
+}
+
+/// Opens a case.
+///
+/// # Errors
+/// The opening's refusal.
+pub fn open(case: &Case) -> Result<Opened, Refused> {
+    let instance = Instance::open(case.users, case.roles, &case.policy, &case.grants)?;
+    Ok(Opened { instance, workspace: Workspace::new() })
+}
+
+impl Opened {
+    /// One event, by its word.
+    ///
+    /// # Errors
+    /// The event's refusal.
+    pub fn event(&mut self, word: u32) -> Result<(), Refused> {
+        Ok(self.instance.event_word(word, &mut self.workspace)?)
+    }
+
+    /// The letter of the status.
+    pub fn status(&mut self) -> char {
+        let status = self.instance.status(&mut self.workspace);
+        status.expect("what was opened and sent events stays well formed").letter()
+    }
+
+    /// How many actions are taken.
+    pub fn taken(&self) -> usize {
+        self.instance.actions().len()
+    }
+}
+
+/// The normal form of a case's policy.
+///
+/// # Errors
+/// The refusal of the policy or the counts.
+pub fn normal_form(case: &Case) -> Result<Vec<u32>, Refused> {
+    let mut out = [0; MOST_WORDS];
+    Ok(oskhrein::normal_form(case.users, case.roles, &case.policy, &mut out)?.to_vec())
+}
+
+/// Whether a multiset of users satisfies a case's policy.
+#[cfg(test)]
+pub fn satisfies(case: &Case, counts: &[u8; MOST_USERS]) -> Result<bool, Refused> {
+    let Case { users, roles, policy, grants, .. } = case;
+    let workspace = &mut Workspace::new();
+    Ok(oskhrein::satisfies(*users, *roles, policy, grants, counts, workspace)?)
+}
