@@ -4,6 +4,7 @@ mod arguments;
 mod faults;
 mod files;
 mod policies;
+mod recipes;
 mod runs;
 mod texts;
 
