@@ -1,6 +1,6 @@
 //! The linked library, as far as this tool uses it. No other module names it.
 
-use oskhrein::{Instance, Refusal, Workspace};
+use oskhrein::{Instance as Monitor, Refusal, Workspace};
 
 use crate::file::Case;
 
@@ -36,7 +36,7 @@ pub fn malformed() -> Refused {
 
 /// A case that was opened.
 pub struct Opened {
-    instance: Instance,
+    monitor: Monitor,
     workspace: Workspace,
 }
 
@@ -45,8 +45,8 @@ pub struct Opened {
 /// # Errors
 /// The opening's refusal.
 pub fn open(case: &Case) -> Result<Opened, Refused> {
-    let instance = Instance::open(case.users, case.roles, &case.policy, &case.grants)?;
-    Ok(Opened { instance, workspace: Workspace::new() })
+    let monitor = Monitor::open(case.users, case.roles, &case.policy, &case.grants)?;
+    Ok(Opened { monitor, workspace: Workspace::new() })
 }
 
 impl Opened {
@@ -55,18 +55,18 @@ impl Opened {
     /// # Errors
     /// The event's refusal.
     pub fn event(&mut self, word: u32) -> Result<(), Refused> {
-        Ok(self.instance.event_word(word, &mut self.workspace)?)
+        Ok(self.monitor.event_word(word, &mut self.workspace)?)
     }
 
     /// The letter of the status.
     pub fn status(&mut self) -> char {
-        let status = self.instance.status(&mut self.workspace);
+        let status = self.monitor.status(&mut self.workspace);
         status.expect("what was opened and sent events stays well formed").letter()
     }
 
     /// How many actions are taken.
     pub fn taken(&self) -> usize {
-        self.instance.actions().len()
+        self.monitor.actions().len()
     }
 }
 
