@@ -7,17 +7,29 @@ use std::path::{Path, PathBuf};
 
 use crate::quote::plain;
 
+/// The most bytes that are read: more than any case needs, and little for a machine.
+const MOST_BYTES: usize = 16 << 20;
+
 /// All of a file, or of standard input.
 ///
 /// # Errors
 /// Why it cannot be read.
 pub fn input(path: Option<&Path>) -> Result<Vec<u8>, String> {
-    let mut bytes = Vec::new();
+    let name = path.unwrap_or(Path::new("standard input"));
     let read = match path {
-        Some(path) => File::open(path).and_then(|mut file| file.read_to_end(&mut bytes)),
-        None => io::stdin().lock().read_to_end(&mut bytes),
+        Some(path) => File::open(path).and_then(all),
+        None => all(io::stdin().lock()),
     };
-    read.map_err(|error| message(path.unwrap_or(Path::new("standard input")), &error))?;
+    read.map_err(|error| message(name, &error))
+}
+
+/// All that can be read, if it is not too much.
+fn all(from: impl Read) -> io::Result<Vec<u8>> {
+    let mut bytes = Vec::new();
+    from.take(MOST_BYTES as u64 + 1).read_to_end(&mut bytes)?;
+    if bytes.len() > MOST_BYTES {
+        return Err(io::Error::other(format!("more than {MOST_BYTES} bytes")));
+    }
     Ok(bytes)
 }
 
