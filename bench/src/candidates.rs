@@ -96,7 +96,7 @@ fn to_raw(own: &Instance) -> RawInstance {
 }
 
 /// An instance as the library stores it.
-fn to_bytes(own: &Instance) -> [u8; oskhrein::Instance::BYTES] {
+fn to_bytes(own: &Instance) -> [u8; oskhrein::Monitor::BYTES] {
     let mut bytes = Vec::new();
     own.policy.iter().for_each(|word| bytes.extend(word.to_le_bytes()));
     bytes.extend([own.words, own.users, own.roles, 0]);
@@ -112,8 +112,8 @@ fn to_bytes(own: &Instance) -> [u8; oskhrein::Instance::BYTES] {
 /// (a) The proved library.
 pub struct Proved<'a> {
     case: &'a Case,
-    start: oskhrein::Instance,
-    now: oskhrein::Instance,
+    start: oskhrein::Monitor,
+    now: oskhrein::Monitor,
     workspace: Workspace,
     out: [u32; oskhrein::MAX_WORDS],
 }
@@ -122,7 +122,7 @@ impl<'a> Proved<'a> {
     /// With the input of a case.
     pub fn new(case: &'a Case) -> Proved<'a> {
         let bytes = to_bytes(&start(case));
-        let start = oskhrein::Instance::from_bytes(&bytes).expect("the mark is 0 or 1");
+        let start = oskhrein::Monitor::from_bytes(&bytes).expect("the mark is 0 or 1");
         let now = start.clone();
         Proved { case, start, now, workspace: Workspace::new(), out: [0; oskhrein::MAX_WORDS] }
     }
@@ -144,7 +144,7 @@ impl Candidate for Proved<'_> {
                 byte(answer, verdict)
             }
             Job::NormalForm => byte(oskhrein::normal_form(users, roles, policy, out), |_| 0),
-            Job::Open => opened(oskhrein::Instance::open(users, roles, policy, rows), now),
+            Job::Open => opened(oskhrein::Monitor::open(users, roles, policy, rows), now),
         }
     }
 
@@ -154,10 +154,10 @@ impl Candidate for Proved<'_> {
         raw.policy[..now.policy().len()].copy_from_slice(now.policy());
         raw.user_roles[..now.user_roles().len()].copy_from_slice(now.user_roles());
         for (place, action) in raw.actions.iter_mut().zip(now.actions()) {
-            *place = Action { user: action.user(), met: action.met() };
+            *place = Action { user: action.user, met: action.met };
         }
         raw.words = now.policy().len() as u8;
-        (raw.users, raw.roles) = (now.users(), now.roles());
+        (raw.users, raw.roles) = (now.users() as u8, now.roles() as u8);
         (raw.taken, raw.closed) = (now.actions().len() as u8, now.is_closed());
         raw
     }

@@ -110,7 +110,7 @@ impl Instance {
     /// One event: 12, 15, 10, 7, then 8, 9 or 11.
     pub fn event(&mut self, word: u32, workspace: &mut [u32], fill: Fill) -> Result<(), Refusal> {
         let workspace = lent(workspace)?;
-        let shape = self.check().ok_or(Refusal::Instance)?;
+        let shape = self.check().ok_or(Refusal::Monitor)?;
         if self.closed {
             return Err(Refusal::Closed);
         }
@@ -169,7 +169,7 @@ impl Instance {
     /// The status, or 12 or 15.
     pub fn status(&self, workspace: &mut [u32], fill: Fill) -> Result<Status, Refusal> {
         let workspace = lent(workspace)?;
-        let shape = self.check().ok_or(Refusal::Instance)?;
+        let shape = self.check().ok_or(Refusal::Monitor)?;
         let satisfied = self.satisfied(&shape, workspace, fill);
         Ok(match (self.closed, satisfied) {
             (true, _) => Status::Closed,

@@ -1,6 +1,6 @@
 //! Events.
 
-/// What may happen to an instance.
+/// What may happen to a monitor.
 ///
 /// Users and roles are numbered from 0. An event that names one which is not declared is refused
 /// with 7 when it is sent.
@@ -27,7 +27,7 @@ pub enum Event {
         /// The role withdrawn.
         role: u8,
     },
-    /// The instance is closed.
+    /// The monitor is closed.
     Close,
 }
 

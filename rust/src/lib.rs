@@ -1,12 +1,12 @@
 //! A safe interface to Oskhrein, the proved separation-of-duty monitor.
 //!
-//! An [`Instance`] is one run under a policy. It takes an action by a user or turns it away, lets
+//! A [`Monitor`] follows one run under a policy. It takes an action by a user or turns it away, lets
 //! roles be granted and withdrawn, and is closed once its actions satisfy the policy; [`satisfies`]
 //! asks about a multiset of users instead, and [`normal_form`] writes a policy in its normal form.
 //! Calls that judge actions are lent a [`Workspace`], and take up to 128 KiB of stack. Nothing is
 //! kept between calls but what the caller holds.
 //!
-//! Document 01 has words of its own for some of these: an instance is its sheet, a workspace its
+//! Document 01 has words of its own for some of these: a monitor is its sheet, a workspace its
 //! work room, a status its standing, a multiset its bag, and users are people.
 //!
 //! # Policies
@@ -33,7 +33,7 @@
 //! more actions by anybody who holds a role.
 //!
 //! ```
-//! use oskhrein::{Event, Instance, Refusal, Status, Workspace};
+//! use oskhrein::{Event, Monitor, Refusal, Status, Workspace};
 //!
 //! # fn main() -> Result<(), Refusal> {
 //! let policy = [
@@ -41,7 +41,7 @@
 //!     0x02000000, 0x05000000, 0x01000000,
 //! ];
 //! let mut workspace = Workspace::new();
-//! let mut quote = Instance::open(3, 3, &policy, &[2, 1, 0])?;
+//! let mut quote = Monitor::open(3, 3, &policy, &[2, 1, 0])?;
 //!
 //! quote.event(Event::Action { user: 0, number: 1 }, &mut workspace)?;
 //! quote.event(Event::Action { user: 1, number: 2 }, &mut workspace)?;
@@ -68,27 +68,21 @@
 #![deny(unsafe_code)]
 
 mod event;
+mod monitor;
 #[allow(unsafe_code)]
-mod ffi;
-mod instance;
+pub mod raw;
 mod refusal;
 mod status;
 mod workspace;
 
 pub use event::Event;
-pub use instance::{Action, Instance, UnknownMark};
+pub use monitor::{Monitor, UnknownMark};
+pub use raw::{Action, MAX_ACTIONS, MAX_ROLES, MAX_USERS, MAX_WORDS};
 pub use refusal::Refusal;
 pub use status::Status;
 pub use workspace::Workspace;
 
-/// The most words that a policy may have.
-pub const MAX_WORDS: usize = 31;
-
-/// The most users, and the most roles, that may be declared.
-pub const MAX_USERS: usize = 16;
-
-/// The most actions that an instance takes, and that a multiset may have.
-pub const MAX_ACTIONS: usize = 12;
+use raw::Calls;
 
 /// Whether a multiset of users satisfies a policy: user u occurs `counts[u]` times. The empty
 /// multiset does not.
@@ -97,7 +91,7 @@ pub const MAX_ACTIONS: usize = 12;
 /// promised.
 ///
 /// # Errors
-/// The first that applies of the refusals of [`Instance::open`], in its order,
+/// The first that applies of the refusals of [`Monitor::open`], in its order,
 /// [`Malformed`](Refusal::Malformed) and [`Full`](Refusal::Full).
 ///
 /// # Example
@@ -121,7 +115,8 @@ pub fn satisfies(
     counts: &[u8; MAX_USERS],
     workspace: &mut Workspace,
 ) -> Result<bool, Refusal> {
-    refusal::verdict(ffi::satisfies(users, roles, policy, user_roles, counts, workspace))
+    let words = workspace.words_mut();
+    refusal::verdict(Calls::LINKED.satisfies(users, roles, policy, user_roles, counts, words))
 }
 
 /// Writes the normal form of a policy at the start of an output, and gives it back. It has as many
@@ -150,6 +145,6 @@ pub fn normal_form<'a>(
     policy: &[u32],
     out: &'a mut [u32],
 ) -> Result<&'a [u32], Refusal> {
-    refusal::accepted(ffi::normal_form(users, roles, policy, out))?;
+    refusal::accepted(Calls::LINKED.normal_form(users, roles, policy, out))?;
     Ok(&out[..policy.len()])
 }

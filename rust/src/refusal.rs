@@ -33,7 +33,7 @@ pub enum Refusal {
     Full = 8,
     /// The actions with this one are not possible.
     NotPossible = 9,
-    /// The instance is closed.
+    /// The monitor is closed.
     Closed = 10,
     /// A close, but the taken actions do not satisfy the policy.
     NotSatisfied = 11,
@@ -43,8 +43,8 @@ pub enum Refusal {
     Output = 13,
     /// A case file is malformed. No call of this crate reads one.
     Case = 14,
-    /// The instance is malformed. Only one that was made from bytes can be.
-    Instance = 15,
+    /// The monitor is malformed. Only one that was made from bytes can be.
+    Monitor = 15,
 }
 
 impl Refusal {
@@ -64,7 +64,7 @@ impl Refusal {
         Refusal::Workspace,
         Refusal::Output,
         Refusal::Case,
-        Refusal::Instance,
+        Refusal::Monitor,
     ];
 
     /// The number.
@@ -96,12 +96,12 @@ impl Refusal {
             }
             Refusal::Full => "twelve actions taken already; in a multiset, more than twelve in all",
             Refusal::NotPossible => "the actions with this one are not possible",
-            Refusal::Closed => "the instance is closed",
+            Refusal::Closed => "the monitor is closed",
             Refusal::NotSatisfied => "close, but not satisfied",
             Refusal::Workspace => "workspace below 8,192 words",
             Refusal::Output => "output shorter than the policy",
             Refusal::Case => "case file malformed",
-            Refusal::Instance => "instance malformed",
+            Refusal::Monitor => "monitor malformed",
         }
     }
 }
@@ -181,6 +181,6 @@ mod tests {
         assert_eq!(accepted(0), Ok(()));
         assert_eq!(status(b'd'), Ok(Status::Closed));
         assert_eq!(verdict(b'n'), Ok(false));
-        assert_eq!(status(15), Err(Refusal::Instance));
+        assert_eq!(status(15), Err(Refusal::Monitor));
     }
 }

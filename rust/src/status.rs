@@ -1,8 +1,8 @@
-//! The status of an instance.
+//! The status of a monitor.
 
 use std::fmt;
 
-/// Where an instance stands.
+/// Where a monitor stands.
 #[derive(Clone, Copy, Debug, PartialEq, Eq, Hash)]
 pub enum Status {
     /// Not closed, and the taken actions do not satisfy the policy.

@@ -1,12 +1,14 @@
 //! The workspace.
 
+use crate::raw::WORKSPACE_WORDS;
+
 /// The words in which a call lays down what it finds of every set of actions.
 ///
 /// Where a call fills the workspace, it speaks of n actions in order. A set of them is a mask, bit
 /// j for the action at place j, from 0. [`satisfied`](Self::satisfied) and
 /// [`possible`](Self::possible) tell of each set below 2ⁿ; beyond that all is zero.
 ///
-/// One workspace serves any number of instances, one call after the other.
+/// One workspace serves any number of monitors, one call after the other.
 #[derive(Clone, Debug, PartialEq, Eq)]
 pub struct Workspace {
     words: Box<[u32; Workspace::WORDS]>,
@@ -14,7 +16,7 @@ pub struct Workspace {
 
 impl Workspace {
     /// How many words it has.
-    pub const WORDS: usize = 8192;
+    pub const WORDS: usize = WORKSPACE_WORDS;
 
     /// How many sets of actions it has room for.
     pub const SETS: usize = Self::WORDS / 2;

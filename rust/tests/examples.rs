@@ -3,7 +3,7 @@
 mod common;
 
 use common::{number, open_l, step, EVENTS_L, POLICY_F};
-use oskhrein::{normal_form, satisfies, Event, Instance, Refusal, Workspace, MAX_WORDS};
+use oskhrein::{normal_form, satisfies, Event, Monitor, Refusal, Workspace, MAX_WORDS};
 
 /// An action by a user.
 fn action(user: u8) -> Event {
@@ -14,8 +14,8 @@ fn action(user: u8) -> Event {
 fn answers(roles: u8, policy: &[u32], rows: &[u16], events: &[Event]) -> Vec<(u8, char)> {
     let mut workspace = Workspace::new();
     let users = rows.len() as u8;
-    let mut instance = Instance::open(users, roles, policy, rows).expect("it opens");
-    events.iter().map(|event| step(&mut instance, event.word(), &mut workspace)).collect()
+    let mut monitor = Monitor::open(users, roles, policy, rows).expect("it opens");
+    events.iter().map(|event| step(&mut monitor, event.word(), &mut workspace)).collect()
 }
 
 /// The numbers alone.
@@ -32,13 +32,13 @@ fn satisfies_f(counts: [u8; 3]) -> Result<bool, Refusal> {
 
 #[test]
 fn p1_listing_l() {
-    let (mut instance, mut workspace) = (open_l(), Workspace::new());
+    let (mut monitor, mut workspace) = (open_l(), Workspace::new());
     let mut lines = Vec::new();
     for (place, word) in EVENTS_L.into_iter().enumerate() {
-        let (number, letter) = step(&mut instance, word, &mut workspace);
+        let (number, letter) = step(&mut monitor, word, &mut workspace);
         lines.push(format!("{} {number} {letter}", place + 1));
     }
-    lines.push(format!("taken {}", instance.actions().len()));
+    lines.push(format!("taken {}", monitor.actions().len()));
     let printed = "1 0 o|2 0 o|3 0 o|4 0 o|5 11 o|6 0 c|7 0 c|8 0 d|9 10 d|taken 4";
     assert_eq!(lines.join("|"), printed);
 }
@@ -53,8 +53,8 @@ fn p2_p3_p4_multisets() {
 
 #[test]
 fn p5_a_user_without_a_role_acts_first() {
-    let (mut instance, mut workspace) = (open_l(), Workspace::new());
-    assert_eq!(instance.event(action(2), &mut workspace), Err(Refusal::NotPossible));
+    let (mut monitor, mut workspace) = (open_l(), Workspace::new());
+    assert_eq!(monitor.event(action(2), &mut workspace), Err(Refusal::NotPossible));
 }
 
 /// P6 and P7: together(role 2, not role 2), and who makes the first action.
@@ -108,7 +108,7 @@ fn p11_its_own_normal_form() {
 fn p12_plus_over_together() {
     let policy = [0x05000000, 0x08000000, 0x01000000, 0x01000000];
     let mut workspace = Workspace::new();
-    assert_eq!(number(Instance::open(1, 1, &policy, &[1])), 4);
+    assert_eq!(number(Monitor::open(1, 1, &policy, &[1])), 4);
     assert_eq!(number(normal_form(1, 1, &policy, &mut [0; 4])), 4);
     assert_eq!(number(satisfies(1, 1, &policy, &[1], &[0; 16], &mut workspace)), 4);
 }

@@ -4,7 +4,7 @@
 mod common;
 
 use common::{number, open_l, POLICY_F};
-use oskhrein::{normal_form, satisfies, Event, Instance, Refusal, Workspace, MAX_WORDS};
+use oskhrein::{normal_form, satisfies, Event, Monitor, Refusal, Workspace, MAX_WORDS};
 
 const EVERYONE: u32 = 0x01000000;
 const PLUS: u32 = 0x05000000;
@@ -17,12 +17,12 @@ fn action(user: u8) -> Event {
 
 /// The number with which an opening is answered.
 fn opened(users: u8, roles: u8, policy: &[u32], rows: &[u16]) -> u8 {
-    number(Instance::open(users, roles, policy, rows))
+    number(Monitor::open(users, roles, policy, rows))
 }
 
-/// An instance of plus everyone: two users with a role, one without.
-fn plus_everyone() -> Instance {
-    Instance::open(3, 2, &[PLUS, EVERYONE], &[1, 2, 0]).expect("it opens")
+/// A monitor of plus everyone: two users with a role, one without.
+fn plus_everyone() -> Monitor {
+    Monitor::open(3, 2, &[PLUS, EVERYONE], &[1, 2, 0]).expect("it opens")
 }
 
 /// A workspace that speaks of no action, in which a call that fills it for others is seen.
@@ -50,11 +50,11 @@ fn openings_in_order() {
 
 #[test]
 fn what_an_opening_leaves() {
-    let instance = open_l();
-    assert_eq!(instance.policy(), POLICY_F);
-    assert_eq!((instance.users(), instance.roles()), (3, 3));
-    assert_eq!(instance.user_roles(), [2, 1, 0]);
-    assert!(instance.actions().is_empty() && !instance.is_closed());
+    let monitor = open_l();
+    assert_eq!(monitor.policy(), POLICY_F);
+    assert_eq!((monitor.users(), monitor.roles()), (3, 3));
+    assert_eq!(monitor.user_roles(), [2, 1, 0]);
+    assert!(monitor.actions().is_empty() && !monitor.is_closed());
 }
 
 #[test]
@@ -72,23 +72,23 @@ fn edges_of_an_opening() {
 
 #[test]
 fn twelve_and_thirteen_actions() {
-    let (mut instance, mut workspace) = (plus_everyone(), Workspace::new());
+    let (mut monitor, mut workspace) = (plus_everyone(), Workspace::new());
     for _ in 0..12 {
-        assert_eq!(instance.event(action(1), &mut workspace), Ok(()));
+        assert_eq!(monitor.event(action(1), &mut workspace), Ok(()));
     }
-    let before = instance.clone();
-    assert_eq!(instance.event(action(3), &mut workspace), Err(Refusal::Malformed));
-    assert_eq!(instance.event(action(2), &mut workspace), Err(Refusal::Full));
-    assert_eq!(instance, before);
-    assert_eq!(instance.event(Event::Close, &mut workspace), Ok(()));
-    assert_eq!(instance.event(action(1), &mut workspace), Err(Refusal::Closed));
+    let before = monitor.clone();
+    assert_eq!(monitor.event(action(3), &mut workspace), Err(Refusal::Malformed));
+    assert_eq!(monitor.event(action(2), &mut workspace), Err(Refusal::Full));
+    assert_eq!(monitor, before);
+    assert_eq!(monitor.event(Event::Close, &mut workspace), Ok(()));
+    assert_eq!(monitor.event(action(1), &mut workspace), Err(Refusal::Closed));
 }
 
 #[test]
 fn a_small_stack_is_enough() {
     let twelve_actions = || {
-        let (mut instance, mut workspace) = (plus_everyone(), Workspace::new());
-        (0..12).all(|_| instance.event(action(1), &mut workspace).is_ok())
+        let (mut monitor, mut workspace) = (plus_everyone(), Workspace::new());
+        (0..12).all(|_| monitor.event(action(1), &mut workspace).is_ok())
     };
     let thread = std::thread::Builder::new().stack_size(128 << 10).spawn(twelve_actions);
     assert!(thread.expect("it starts").join().expect("it ends"));
@@ -96,49 +96,49 @@ fn a_small_stack_is_enough() {
 
 #[test]
 fn words_that_are_no_event() {
-    let mut instance = plus_everyone();
-    let before = instance.clone();
+    let mut monitor = plus_everyone();
+    let before = monitor.clone();
     let mut workspace = marked();
     let wrong = [0, 0x05000000, 0x01000300, 0x01010000, 0x02000002, 0x03800000, 0x04000001];
     for word in wrong {
-        assert_eq!(instance.event_word(word, &mut workspace), Err(Refusal::Malformed));
+        assert_eq!(monitor.event_word(word, &mut workspace), Err(Refusal::Malformed));
     }
-    assert_eq!((instance, workspace), (before, marked()));
+    assert_eq!((monitor, workspace), (before, marked()));
 }
 
 #[test]
 fn a_refused_action_fills_the_workspace_alone() {
-    let mut instance = plus_everyone();
-    let before = instance.clone();
+    let mut monitor = plus_everyone();
+    let before = monitor.clone();
     let mut workspace = Workspace::new();
-    assert_eq!(instance.event(action(2), &mut workspace), Err(Refusal::NotPossible));
-    assert_eq!(instance, before);
+    assert_eq!(monitor.event(action(2), &mut workspace), Err(Refusal::NotPossible));
+    assert_eq!(monitor, before);
     assert_eq!((workspace.possible(0), workspace.possible(1)), (0b11, 0));
     assert_eq!(workspace.words().iter().filter(|word| **word != 0).count(), 1);
 }
 
 #[test]
 fn a_refused_close_fills_the_workspace_alone() {
-    let mut instance = plus_everyone();
+    let mut monitor = plus_everyone();
     let mut workspace = Workspace::new();
-    assert_eq!(instance.event(Event::Close, &mut workspace), Err(Refusal::NotSatisfied));
-    assert!(!instance.is_closed());
+    assert_eq!(monitor.event(Event::Close, &mut workspace), Err(Refusal::NotSatisfied));
+    assert!(!monitor.is_closed());
     assert_eq!((workspace.satisfied(0), workspace.possible(0)), (0, 0b11));
-    assert_eq!(instance.event(action(0), &mut workspace), Ok(()));
+    assert_eq!(monitor.event(action(0), &mut workspace), Ok(()));
     assert_eq!((workspace.satisfied(1), workspace.possible(1)), (0b11, 0b11));
-    assert_eq!(instance.event(Event::Close, &mut workspace), Ok(()));
-    assert!(instance.is_closed());
+    assert_eq!(monitor.event(Event::Close, &mut workspace), Ok(()));
+    assert!(monitor.is_closed());
 }
 
 #[test]
 fn grants_alter_one_bit() {
-    let (mut instance, mut workspace) = (plus_everyone(), marked());
+    let (mut monitor, mut workspace) = (plus_everyone(), marked());
     for event in [Event::Grant { user: 2, role: 1 }, Event::Revoke { user: 0, role: 1 }] {
-        assert_eq!(instance.event(event, &mut workspace), Ok(()));
+        assert_eq!(monitor.event(event, &mut workspace), Ok(()));
     }
-    assert_eq!(instance.user_roles(), [1, 2, 2]);
-    assert_eq!(instance.event(Event::Revoke { user: 1, role: 1 }, &mut workspace), Ok(()));
-    assert_eq!(instance.user_roles(), [1, 0, 2]);
+    assert_eq!(monitor.user_roles(), [1, 2, 2]);
+    assert_eq!(monitor.event(Event::Revoke { user: 1, role: 1 }, &mut workspace), Ok(()));
+    assert_eq!(monitor.user_roles(), [1, 0, 2]);
     assert_eq!(workspace, marked());
 }
 
@@ -174,7 +174,7 @@ fn outputs() {
 
 #[test]
 fn refusals_say_what_they_are() {
-    let refusal = Instance::open(1, 1, &[], &[]).expect_err("it has no word");
+    let refusal = Monitor::open(1, 1, &[], &[]).expect_err("it has no word");
     assert_eq!(refusal.to_string(), "no word, or more than 31");
-    assert_eq!(Refusal::Instance.number(), 15);
+    assert_eq!(Refusal::Monitor.number(), 15);
 }

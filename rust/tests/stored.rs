@@ -1,29 +1,29 @@
-//! Instances stored in bytes and reloaded, and bytes in which none was stored.
+//! Monitors stored in bytes and reloaded, and bytes in which none was stored.
 
 mod common;
 
 use common::{open_l, step, EVENTS_L, POLICY_F};
-use oskhrein::{Event, Instance, Refusal, Workspace};
+use oskhrein::{Event, Monitor, Refusal, Workspace};
 
-/// The bytes of listing L's instance with its first two actions.
-fn stored() -> [u8; Instance::BYTES] {
-    let (mut instance, mut workspace) = (open_l(), Workspace::new());
+/// The bytes of listing L's monitor with its first two actions.
+fn stored() -> [u8; Monitor::BYTES] {
+    let (mut monitor, mut workspace) = (open_l(), Workspace::new());
     for word in &EVENTS_L[..2] {
-        instance.event_word(*word, &mut workspace).expect("it is accepted");
+        monitor.event_word(*word, &mut workspace).expect("it is accepted");
     }
-    instance.to_bytes()
+    monitor.to_bytes()
 }
 
-/// Whether an instance with this byte at this place is malformed, by both calls.
+/// Whether a monitor with this byte at this place is malformed, by both calls.
 fn is_malformed(place: usize, byte: u8) -> bool {
     let mut bytes = stored();
     bytes[place] = byte;
-    let mut instance = Instance::from_bytes(&bytes).expect("its mark is 0 or 1");
+    let mut monitor = Monitor::from_bytes(&bytes).expect("its mark is 0 or 1");
     let mut workspace = Workspace::new();
-    let status = instance.status(&mut workspace);
-    let event = instance.event(Event::Grant { user: 0, role: 1 }, &mut workspace);
+    let status = monitor.status(&mut workspace);
+    let event = monitor.event(Event::Grant { user: 0, role: 1 }, &mut workspace);
     assert_eq!(status.is_err(), event.is_err());
-    status == Err(Refusal::Instance) && event == Err(Refusal::Instance)
+    status == Err(Refusal::Monitor) && event == Err(Refusal::Monitor)
 }
 
 #[test]
@@ -31,7 +31,7 @@ fn reloaded_at_every_step() {
     let (mut kept, mut workspace) = (open_l(), Workspace::new());
     let mut reloaded = kept.clone();
     for word in EVENTS_L {
-        reloaded = Instance::from_bytes(&reloaded.to_bytes()).expect("it was stored");
+        reloaded = Monitor::from_bytes(&reloaded.to_bytes()).expect("it was stored");
         let answers = [&mut kept, &mut reloaded].map(|i| step(i, word, &mut workspace));
         assert_eq!(answers[0], answers[1]);
         assert_eq!(kept, reloaded);
@@ -88,8 +88,8 @@ fn padding_is_not_looked_at() {
     for place in [127, 161, 162, 163, 249, 258, 259] {
         bytes[place] = 0xff;
     }
-    let instance = Instance::from_bytes(&bytes).expect("its mark is 0");
-    assert_eq!(instance.to_bytes(), stored());
+    let monitor = Monitor::from_bytes(&bytes).expect("its mark is 0");
+    assert_eq!(monitor.to_bytes(), stored());
 }
 
 #[test]
@@ -97,9 +97,9 @@ fn a_mark_that_is_neither_0_nor_1_is_refused() {
     let mut bytes = stored();
     for mark in 0..=u8::MAX {
         bytes[257] = mark;
-        assert_eq!(Instance::from_bytes(&bytes).is_ok(), mark <= 1, "{mark}");
+        assert_eq!(Monitor::from_bytes(&bytes).is_ok(), mark <= 1, "{mark}");
     }
-    let error = Instance::from_bytes(&bytes).expect_err("the mark is 255");
+    let error = Monitor::from_bytes(&bytes).expect_err("the mark is 255");
     assert_eq!(error.to_string(), "the closed mark is 255, neither 0 nor 1");
 }
 
@@ -111,13 +111,13 @@ fn any_bytes_are_answered() {
         let mut bytes = stored();
         for _ in 0..3 {
             state = state.wrapping_mul(1664525).wrapping_add(1013904223);
-            bytes[(state >> 8) as usize % Instance::BYTES] = (state >> 24) as u8;
+            bytes[(state >> 8) as usize % Monitor::BYTES] = (state >> 24) as u8;
         }
-        let Ok(mut instance) = Instance::from_bytes(&bytes) else { continue };
-        let parts = (instance.policy().len(), instance.user_roles().len());
-        assert!(parts.0 <= 31 && parts.1 <= 16 && instance.actions().len() <= 12);
-        let status = instance.status(&mut workspace);
-        let event = instance.event(Event::Action { user: 0, number: 0 }, &mut workspace);
-        assert_eq!(status == Err(Refusal::Instance), event == Err(Refusal::Instance));
+        let Ok(mut monitor) = Monitor::from_bytes(&bytes) else { continue };
+        let parts = (monitor.policy().len(), monitor.user_roles().len());
+        assert!(parts.0 <= 31 && parts.1 <= 16 && monitor.actions().len() <= 12);
+        let status = monitor.status(&mut workspace);
+        let event = monitor.event(Event::Action { user: 0, number: 0 }, &mut workspace);
+        assert_eq!(status == Err(Refusal::Monitor), event == Err(Refusal::Monitor));
     }
 }

@@ -1,6 +1,6 @@
 //! What the tests share: document 01's policy F and listing L.
 
-use oskhrein::{Instance, Refusal, Workspace};
+use oskhrein::{Monitor, Refusal, Workspace};
 
 /// Policy F, Example 3 of document 004.
 pub const POLICY_F: [u32; 10] = [
@@ -15,10 +15,10 @@ pub const EVENTS_L: [u32; 9] = [
     0x01000004,
 ];
 
-/// An instance of policy F with listing L's counts and roles.
+/// A monitor of policy F with listing L's counts and roles.
 #[allow(dead_code)]
-pub fn open_l() -> Instance {
-    Instance::open(3, 3, &POLICY_F, &[2, 1, 0]).expect("listing L opens")
+pub fn open_l() -> Monitor {
+    Monitor::open(3, 3, &POLICY_F, &[2, 1, 0]).expect("listing L opens")
 }
 
 /// The number of an answer: 0 is acceptance.
@@ -28,7 +28,7 @@ pub fn number<T>(answer: Result<T, Refusal>) -> u8 {
 
 /// The number answered to an event, and the letter of the status after it.
 #[allow(dead_code)]
-pub fn step(instance: &mut Instance, word: u32, workspace: &mut Workspace) -> (u8, char) {
-    let number = number(instance.event_word(word, workspace));
-    (number, instance.status(workspace).expect("it is well formed").letter())
+pub fn step(monitor: &mut Monitor, word: u32, workspace: &mut Workspace) -> (u8, char) {
+    let number = number(monitor.event_word(word, workspace));
+    (number, monitor.status(workspace).expect("it is well formed").letter())
 }

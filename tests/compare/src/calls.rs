@@ -5,7 +5,7 @@ mod multisets;
 mod normal_forms;
 mod openings;
 
-use crate::library::Library;
+use crate::library;
 use crate::report::{Group, Report, Seen};
 
 /// One exported call: what was compared, and which answers occurred.
@@ -37,7 +37,7 @@ fn byte<T: Into<u8>>(answer: Result<T, u32>) -> u8 {
 
 /// Compares each call on its edges and on so many random inputs.
 pub fn compare(seed: u64, count: usize) -> Result<Report, String> {
-    let library = Library::chosen()?;
+    let library = library::chosen()?;
     let mut calls = vec![openings::compare(&library, seed, count)];
     calls.extend(events::compare(&library, seed, count));
     calls.push(multisets::compare(&library, seed, count));

@@ -2,9 +2,9 @@
 //! mistake or without: `plain CRATES OUT [EDIT]`.
 //!
 //! Rattle's code is Rust but for its contracts. What is dropped: `requires` and `ensures` clauses
-//! and `ghost use` items, and the C calling convention, since Rust passes a slice to C in another
-//! way (`kit/exports.rs` is that boundary). What is added: Rattle's values are copied, so every
-//! struct and enum can be, and a struct has the C layout.
+//! and `ghost use` items. What is added: Rattle's values are copied, so every struct and enum can
+//! be, and a struct has the C layout; and Rust passes a slice to C in another way, so a function
+//! with the C calling convention is a Rust function, beside one for C that hands on to it.
 
 #![forbid(unsafe_code)]
 
@@ -14,6 +14,8 @@ use std::process::ExitCode;
 
 #[cfg(test)]
 mod tests;
+
+mod boundary;
 
 fn main() -> ExitCode {
     let arguments: Vec<String> = std::env::args().skip(1).collect();
@@ -159,7 +161,7 @@ fn to_rust(source: &str) -> String {
         code += &rest[..kept];
         rest = &rest[kept.max(skipped)..];
     }
-    with_attributes(&code)
+    with_attributes(&code) + &boundary::of(source)
 }
 
 /// The code with its attributes for Rust.

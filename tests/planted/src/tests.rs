@@ -27,9 +27,22 @@ fn structs_and_enums_are_copied() {
 }
 
 #[test]
-fn the_c_boundary_is_dropped() {
-    let code = to_rust("#[no_mangle]\npub extern \"C\" fn f(a: &[u8]) -> u8 {\n    0\n}\n");
-    assert_eq!(code, "pub fn f(a: &[u8]) -> u8 {\n    0\n}\n");
+fn the_c_boundary_is_made_from_the_signatures() {
+    let source = "#[no_mangle]\npub extern \"C\" fn f(
+    a: &mut A,
+    b: &[u8; 16],
+    c: &[u32],
+    d: &mut [u16],
+) -> u8\n    ensures { ⌜ true ⌝ }\n{\n    0\n}
+pub extern \"C\" fn g() -> u32 {\n    1\n}\n";
+    let code = to_rust(source);
+    assert!(code.starts_with("pub fn f(\n    a: &mut A,\n"), "{code}");
+    let for_c = "#[no_mangle]\npub unsafe extern \"C\" fn f(a: &mut A, b: &[u8; 16], \
+                 c: *const u32, c_length: usize, d: *mut u16, d_length: usize) -> u8 {
+    super::f(a, b, lent(c, c_length), lent_mut(d, d_length))\n}\n";
+    assert!(code.contains(for_c), "{code}");
+    assert!(code.contains("extern \"C\" fn g() -> u32 {\n    super::g()\n}"), "{code}");
+    assert!(!to_rust("pub fn f(a: &[u8]) -> u8 {\n    0\n}\n").contains("boundary"));
 }
 
 #[test]

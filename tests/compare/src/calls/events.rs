@@ -1,20 +1,23 @@
 //! Events and statuses (01: standings): on raw instances, well formed and not, and along whole runs.
 
+use std::hint::black_box;
+
+use oskhrein::raw::{Calls, Monitor};
 use reference::casefile::{read_case, Case};
 use reference::generate::calls::{event_edges, event_input, EventInput};
 use reference::generate::{cases, Random};
-use reference::monitor;
+use reference::monitor::Instance as Grown;
 use reference::raw::RawInstance;
 use reference::workspace::WORDS;
 
 use super::{byte, Call};
 use crate::lent::Lent;
-use crate::library::{Instance, Library};
+use crate::library::laid_out;
 use crate::report::answer_text;
 
 /// Both calls, with the library that is asked.
 struct Events<'a> {
-    library: &'a Library,
+    library: &'a Calls,
     event: Call,
     status: Call,
 }
@@ -22,7 +25,7 @@ struct Events<'a> {
 /// What a call answered and left.
 struct Left<'a> {
     answer: u8,
-    instance: &'a Instance,
+    monitor: &'a Monitor,
     workspace: &'a Lent,
 }
 
@@ -30,7 +33,7 @@ impl Left<'_> {
     /// Whether another left the same.
     fn same(&self, other: &Left) -> bool {
         self.answer == other.answer
-            && self.instance == other.instance
+            && self.monitor == other.monitor
             && self.workspace == other.workspace
     }
 
@@ -38,9 +41,9 @@ impl Left<'_> {
     fn against(&self, got: &Left) -> String {
         let mut text =
             format!("  expected {}, got {}", answer_text(self.answer), answer_text(got.answer));
-        if self.instance != got.instance {
-            let (expected, got) = (self.instance, got.instance);
-            text += &format!("\n  expected instance {expected:x?}\n  got instance {got:x?}");
+        if self.monitor != got.monitor {
+            let (expected, got) = (self.monitor, got.monitor);
+            text += &format!("\n  expected monitor {expected:x?}\n  got monitor {got:x?}");
         }
         if let Some((place, word, other)) = self.workspace.first_difference(got.workspace) {
             text += &format!("\n  workspace word {place}: expected {word:08x}, got {other:08x}");
@@ -51,7 +54,7 @@ impl Left<'_> {
 
 /// Compares on all edges, on so many random instances, on as many with a bit flipped, and along
 /// runs.
-pub fn compare(library: &Library, seed: u64, count: usize) -> [Call; 2] {
+pub fn compare(library: &Calls, seed: u64, count: usize) -> [Call; 2] {
     let event = Call::new("event", &[0, 7, 8, 9, 10, 11, 12, 15]);
     let status = Call::new("status", &[12, 15, b'c', b'd', b'o']);
     let mut events = Events { library, event, status };
@@ -99,40 +102,42 @@ impl Events<'_> {
         let mut raw = input.instance;
         let mut workspace = Lent::new(input.workspace);
         let code = raw.event(input.word, workspace.words());
-        let after = Instance::from(&raw);
-        let expected = Left { answer: code as u8, instance: &after, workspace: &workspace };
-        let before = Instance::from(&input.instance);
+        let after = laid_out(&raw);
+        let expected = Left { answer: code as u8, monitor: &after, workspace: &workspace };
+        let before = laid_out(&input.instance);
         self.event(label, before, input.word, input.workspace, &expected);
         let mut workspace = Lent::new(input.workspace);
         let answer = byte(input.instance.status(workspace.words()).map(|letter| letter as u8));
-        let expected = Left { answer, instance: &before, workspace: &workspace };
+        let expected = Left { answer, monitor: &before, workspace: &workspace };
         self.status(label, &before, input.workspace, &expected);
     }
 
-    /// Asks the product for an event; the instance that it leaves.
+    /// Asks the product for an event; the monitor that it leaves.
     fn event(
         &mut self,
         label: &str,
-        before: Instance,
+        before: Monitor,
         word: u32,
         length: usize,
         expected: &Left,
-    ) -> Instance {
-        let (mut instance, mut workspace) = (before, Lent::new(length));
-        let answer = self.library.event(&mut instance, word, workspace.words());
-        let got = Left { answer, instance: &instance, workspace: &workspace };
+    ) -> Monitor {
+        let (mut monitor, mut workspace) = (before, Lent::new(length));
+        let answer = self.library.event(&mut monitor, word, workspace.words());
+        let got = Left { answer, monitor: &monitor, workspace: &workspace };
         self.event.check(answer, expected.same(&got), || {
             let input = format!("event {word:08x}, workspace of {length}, on (hex) {before:x?}");
             format!("{label}\n  {input}\n{}", expected.against(&got))
         });
-        instance
+        monitor
     }
 
     /// Asks the product for a status.
-    fn status(&mut self, label: &str, before: &Instance, length: usize, expected: &Left) {
-        let (mut instance, mut workspace) = (*before, Lent::new(length));
-        let answer = self.library.status(&mut instance, workspace.words());
-        let got = Left { answer, instance: &instance, workspace: &workspace };
+    fn status(&mut self, label: &str, before: &Monitor, length: usize, expected: &Left) {
+        let (mut monitor, mut workspace) = (*before, Lent::new(length));
+        let answer = self.library.status(&monitor, workspace.words());
+        // The call only reads the monitor; it is looked at anew, so that a write would be seen.
+        black_box(&mut monitor);
+        let got = Left { answer, monitor: &monitor, workspace: &workspace };
         self.status.check(answer, expected.same(&got), || {
             let input = format!("workspace of {length}, of (hex) {before:x?}");
             format!("{label}\n  {input}\n{}", expected.against(&got))
@@ -144,23 +149,23 @@ impl Events<'_> {
     fn run(&mut self, label: &str, case: &Case) {
         let Case { users, roles, policy, user_roles, events } = case;
         let (users, roles) = (*users, *roles);
-        let opened = monitor::Instance::open(users.into(), roles.into(), policy, user_roles);
+        let opened = Grown::open(users.into(), roles.into(), policy, user_roles);
         let Ok(mut grown) = opened else {
             return;
         };
-        let mut instance = Instance::default();
-        self.library.open(&mut instance, users, roles, policy, user_roles);
+        let mut monitor = Monitor::BLANK;
+        self.library.open(&mut monitor, users, roles, policy, user_roles);
         for (place, word) in events.iter().enumerate() {
             let label = format!("{label}, event {place} of (hex) {case:x?}");
             let mut workspace = Lent::new(WORDS);
             let answer = grown.event(*word, workspace.words()) as u8;
-            let after = Instance::from(&grown.raw());
-            let expected = Left { answer, instance: &after, workspace: &workspace };
-            instance = self.event(&label, instance, *word, WORDS, &expected);
+            let after = laid_out(&grown.raw());
+            let expected = Left { answer, monitor: &after, workspace: &workspace };
+            monitor = self.event(&label, monitor, *word, WORDS, &expected);
             let mut workspace = Lent::new(WORDS);
             let answer = byte(grown.status(workspace.words()).map(|letter| letter as u8));
-            let expected = Left { answer, instance: &after, workspace: &workspace };
-            self.status(&label, &instance, WORDS, &expected);
+            let expected = Left { answer, monitor: &after, workspace: &workspace };
+            self.status(&label, &monitor, WORDS, &expected);
         }
     }
 }

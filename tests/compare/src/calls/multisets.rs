@@ -1,6 +1,7 @@
 //! The multiset test (01: bag test): the answer, and a workspace that fits some numbering of the
 //! multiset's actions, since 01 leaves their order open.
 
+use oskhrein::raw::Calls;
 use reference::generate::calls::{multiset_edges, multiset_input, MultisetInput};
 use reference::generate::Random;
 use reference::monitor::{multiset, open_multiset, Taken};
@@ -9,7 +10,6 @@ use reference::workspace::{fits_some_numbering, POSSIBLE, WORDS};
 
 use super::{byte, Call};
 use crate::lent::Lent;
-use crate::library::Library;
 use crate::report::answer_text;
 
 /// Up to so many actions all numberings are tried; of more, what does not depend on the numbering
@@ -17,7 +17,7 @@ use crate::report::answer_text;
 const TRIED: usize = 6;
 
 /// Compares on the edges and on so many random multisets.
-pub fn compare(library: &Library, seed: u64, count: usize) -> Call {
+pub fn compare(library: &Calls, seed: u64, count: usize) -> Call {
     let mut call = Call::new("satisfies", &[1, 2, 3, 4, 5, 6, 7, 8, 12, b'n', b'y']);
     for (name, input) in multiset_edges() {
         check(&mut call, library, name, &input);
@@ -34,14 +34,14 @@ pub fn compare(library: &Library, seed: u64, count: usize) -> Call {
 }
 
 /// One multiset. The numbering by ascending user is tried first, then others.
-fn check(call: &mut Call, library: &Library, label: &str, input: &MultisetInput) {
+fn check(call: &mut Call, library: &Calls, label: &str, input: &MultisetInput) {
     let MultisetInput { users, roles, words, user_roles, counts, workspace } = input;
     let mut expected = Lent::new(*workspace);
     let answered = multiset(*users, *roles, words, user_roles, counts, expected.words());
     let expected_answer = byte(answered.map(|yes| if yes { b'y' } else { b'n' }));
     let mut got = Lent::new(*workspace);
-    let given = (*users as u8, *roles as u8);
-    let answer = library.satisfies(given, words, user_roles, counts, got.words());
+    let (n_users, n_roles) = (*users as u8, *roles as u8);
+    let answer = library.satisfies(n_users, n_roles, words, user_roles, counts, got.words());
     let same = answer == expected_answer
         && (got == expected || fits(input, &mut got.clone(), &mut expected.clone()));
     call.check(answer, same, || {

@@ -1,17 +1,17 @@
 //! The normal form: the number, the words written, and that the rest of the output keeps what it
 //! had.
 
+use oskhrein::raw::Calls;
 use reference::generate::calls::{policy_edges, policy_input, PolicyInput};
 use reference::generate::Random;
 use reference::policy::normal_form;
 
 use super::Call;
 use crate::lent::Lent;
-use crate::library::Library;
 use crate::report::answer_text;
 
 /// Compares on the edges and on so many random policies.
-pub fn compare(library: &Library, seed: u64, count: usize) -> Call {
+pub fn compare(library: &Calls, seed: u64, count: usize) -> Call {
     let mut call = Call::new("normal form", &[0, 1, 2, 3, 4, 5, 13]);
     for (name, input) in policy_edges() {
         check(&mut call, library, &name, &input);
@@ -28,7 +28,7 @@ pub fn compare(library: &Library, seed: u64, count: usize) -> Call {
 }
 
 /// One normal form.
-fn check(call: &mut Call, library: &Library, label: &str, input: &PolicyInput) {
+fn check(call: &mut Call, library: &Calls, label: &str, input: &PolicyInput) {
     let PolicyInput { users, roles, words, output } = input;
     let mut expected = Lent::new(*output);
     let code = normal_form(*users, *roles, words, expected.words());

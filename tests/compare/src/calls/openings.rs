@@ -1,17 +1,18 @@
-//! Opening an instance: the number, and the whole instance, which is blank after a refusal.
+//! Opening a monitor: the number, and the whole monitor, which is blank after a refusal.
 
+use oskhrein::raw::{Action, Calls, Monitor};
 use reference::casefile::{read_case, Case};
 use reference::generate::{cases, edges, Random};
 use reference::raw::RawInstance;
 
 use super::Call;
 use crate::fuzz::likely_word;
-use crate::library::{Action, Instance, Library};
+use crate::library::laid_out;
 use crate::report::answer_text;
 
-/// What the caller's instance holds before it is opened: nothing that an opening writes.
-fn unopened() -> Instance {
-    Instance {
+/// What the caller's monitor holds before it is opened: nothing that an opening writes.
+fn unopened() -> Monitor {
+    Monitor {
         policy: [0xa5a5_a5a5; 31],
         words: 0xa5,
         users: 0xa6,
@@ -34,7 +35,7 @@ fn unrelated(random: &mut Random) -> Case {
 }
 
 /// Compares on all edges, on so many random cases and on as many with unrelated parts.
-pub fn compare(library: &Library, seed: u64, count: usize) -> Call {
+pub fn compare(library: &Calls, seed: u64, count: usize) -> Call {
     let mut call = Call::new("open", &[0, 1, 2, 3, 4, 5, 6]);
     for (name, bytes) in edges::all() {
         if let Ok(case) = read_case(&bytes) {
@@ -56,17 +57,17 @@ pub fn compare(library: &Library, seed: u64, count: usize) -> Call {
 }
 
 /// One opening.
-fn check(call: &mut Call, library: &Library, label: &str, case: &Case) {
+fn check(call: &mut Call, library: &Calls, label: &str, case: &Case) {
     let Case { users, roles, policy, user_roles, .. } = case;
     let (code, raw) = RawInstance::open((*users).into(), (*roles).into(), policy, user_roles);
-    let mut instance = unopened();
-    let answer = library.open(&mut instance, *users, *roles, policy, user_roles);
-    let expected = Instance::from(&raw);
-    call.check(answer, answer == code as u8 && instance == expected, || {
+    let mut monitor = unopened();
+    let answer = library.open(&mut monitor, *users, *roles, policy, user_roles);
+    let expected = laid_out(&raw);
+    call.check(answer, answer == code as u8 && monitor == expected, || {
         let answer = answer_text(answer);
         format!(
             "{label}\n  users {users}, roles {roles}, policy {policy:08x?}, rows {user_roles:04x?}
-  expected {code} and {expected:x?}\n  got {answer} and {instance:x?}"
+  expected {code} and {expected:x?}\n  got {answer} and {monitor:x?}"
         )
     });
 }

@@ -1,0 +1,156 @@
+//! A monitor: opening, events, the status, and the bytes in which it is stored.
+
+use std::error::Error;
+use std::fmt;
+
+use crate::event::Event;
+use crate::raw::{self, Action, Calls};
+use crate::refusal::{self, Refusal};
+use crate::status::Status;
+use crate::workspace::Workspace;
+
+/// The monitor of one run under a policy: the policy, who holds which roles, the actions taken so
+/// far, and whether it is closed.
+///
+/// It is plain data without pointers. [`to_bytes`](Self::to_bytes) and
+/// [`from_bytes`](Self::from_bytes) store and reload it.
+#[derive(Clone, Debug, PartialEq, Eq, Hash)]
+pub struct Monitor {
+    raw: raw::Monitor,
+}
+
+impl Monitor {
+    /// How many bytes a monitor is stored in.
+    pub const BYTES: usize = raw::Monitor::BYTES;
+
+    /// Opens a monitor under a policy, with one row of roles for each user, bit r for role r. No
+    /// action is taken, and it is not closed.
+    ///
+    /// # Errors
+    /// The first that applies of [`Counts`](Refusal::Counts), [`WordCount`](Refusal::WordCount),
+    /// [`Word`](Refusal::Word), [`Term`](Refusal::Term), [`Unit`](Refusal::Unit) and
+    /// [`Rows`](Refusal::Rows).
+    pub fn open(
+        users: u8,
+        roles: u8,
+        policy: &[u32],
+        user_roles: &[u16],
+    ) -> Result<Monitor, Refusal> {
+        let mut raw = raw::Monitor::BLANK;
+        refusal::accepted(Calls::LINKED.open(&mut raw, users, roles, policy, user_roles))?;
+        Ok(Monitor { raw })
+    }
+
+    /// One event. If it is accepted, it alters its own part alone: an action adds itself, a grant
+    /// or withdrawal alters one bit, a close sets the mark.
+    ///
+    /// After an action that is accepted or not possible the workspace speaks of the taken actions
+    /// and that one; after a close that is accepted or not satisfied, of the taken actions.
+    ///
+    /// # Errors
+    /// The first that applies of [`Monitor`](Refusal::Monitor), [`Closed`](Refusal::Closed),
+    /// [`Malformed`](Refusal::Malformed); for an action [`Full`](Refusal::Full) and
+    /// [`NotPossible`](Refusal::NotPossible); for a close [`NotSatisfied`](Refusal::NotSatisfied).
+    pub fn event(&mut self, event: Event, workspace: &mut Workspace) -> Result<(), Refusal> {
+        self.event_word(event.word(), workspace)
+    }
+
+    /// The same as [`event`](Self::event), by the event's word. Any word is answered; one that is
+    /// no event's is [`Malformed`](Refusal::Malformed).
+    ///
+    /// # Errors
+    /// As [`event`](Self::event).
+    pub fn event_word(&mut self, word: u32, workspace: &mut Workspace) -> Result<(), Refusal> {
+        refusal::accepted(Calls::LINKED.event(&mut self.raw, word, workspace.words_mut()))
+    }
+
+    /// Where the monitor stands. The workspace then speaks of the taken actions.
+    ///
+    /// # Errors
+    /// [`Monitor`](Refusal::Monitor).
+    pub fn status(&self, workspace: &mut Workspace) -> Result<Status, Refusal> {
+        refusal::status(Calls::LINKED.status(&self.raw, workspace.words_mut()))
+    }
+
+    /// The policy's words.
+    pub fn policy(&self) -> &[u32] {
+        first(&self.raw.policy, self.raw.words.into())
+    }
+
+    /// How many users are declared.
+    pub fn users(&self) -> usize {
+        self.raw.users.into()
+    }
+
+    /// How many roles are declared.
+    pub fn roles(&self) -> usize {
+        self.raw.roles.into()
+    }
+
+    /// The roles that each user holds now, bit r for role r.
+    pub fn user_roles(&self) -> &[u16] {
+        first(&self.raw.user_roles, self.users())
+    }
+
+    /// The taken actions, in order of arrival.
+    pub fn actions(&self) -> &[Action] {
+        first(&self.raw.actions, self.raw.taken.into())
+    }
+
+    /// Whether the monitor is closed.
+    pub fn is_closed(&self) -> bool {
+        self.raw.closed != 0
+    }
+
+    /// The monitor in bytes: C's layout of it, each number low byte first, padding zero.
+    pub fn to_bytes(&self) -> [u8; Self::BYTES] {
+        self.raw.to_bytes()
+    }
+
+    /// The monitor that was stored in these bytes. Padding is not looked at.
+    ///
+    /// Bytes that no monitor was stored in may give one that is malformed. Each call on it answers
+    /// [`Refusal::Monitor`], and [`policy`](Self::policy), [`user_roles`](Self::user_roles) and
+    /// [`actions`](Self::actions) give no more of it than there is.
+    ///
+    /// # Errors
+    /// If the closed mark is neither 0 nor 1.
+    pub fn from_bytes(bytes: &[u8; Self::BYTES]) -> Result<Monitor, UnknownMark> {
+        Monitor::from_raw(raw::Monitor::from_bytes(bytes))
+    }
+
+    /// The monitor as C lays it out.
+    pub fn as_raw(&self) -> &raw::Monitor {
+        &self.raw
+    }
+
+    /// The monitor that C's layout holds, as [`from_bytes`](Self::from_bytes) takes it from bytes.
+    ///
+    /// # Errors
+    /// If the closed mark is neither 0 nor 1.
+    pub fn from_raw(raw: raw::Monitor) -> Result<Monitor, UnknownMark> {
+        match raw.closed {
+            0 | 1 => Ok(Monitor { raw }),
+            mark => Err(UnknownMark { mark }),
+        }
+    }
+}
+
+/// The first so many, or all if there are fewer.
+fn first<T>(all: &[T], count: usize) -> &[T] {
+    &all[..all.len().min(count)]
+}
+
+/// Stored bytes whose closed mark is neither 0 nor 1.
+#[derive(Clone, Copy, Debug, PartialEq, Eq)]
+pub struct UnknownMark {
+    mark: u8,
+}
+
+impl fmt::Display for UnknownMark {
+    fn fmt(&self, f: &mut fmt::Formatter<'_>) -> fmt::Result {
+        write!(f, "the closed mark is {}, neither 0 nor 1", self.mark)
+    }
+}
+
+impl Error for UnknownMark {}

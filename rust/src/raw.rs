@@ -1,0 +1,183 @@
+//! The exported calls as they are: on a monitor where the caller keeps it, in C's layout, with one
+//! byte an answer. For a program that has no use for this module the crate's root is the better
+//! place.
+//!
+//! All that is unsafe in this crate is here. The library asks of its caller (`oskhrein.h`):
+//!
+//! 1. Each pointer is aligned, not null and valid for its length. Here each is that of a reference
+//!    or a slice, and the slice's own length follows it.
+//! 2. What one call is lent does not overlap, and nobody else writes it meanwhile. Here all that a
+//!    call writes is behind a `&mut`, and all that it only reads behind a `&`.
+//! 3. A monitor is initialised and its `closed` is 0 or 1. The type sees to the first, and each
+//!    function here to the second.
+//!
+//! A call neither keeps a pointer nor unwinds.
+
+mod layout;
+
+use std::ffi::c_void;
+use std::mem::transmute;
+use std::ptr::NonNull;
+
+pub use layout::{Action, Monitor, MAX_ACTIONS, MAX_ROLES, MAX_USERS, MAX_WORDS};
+
+/// How many words a workspace has at least.
+pub const WORKSPACE_WORDS: usize = 8192;
+
+/// Declares the exported functions, and with them the table of pointers to them.
+macro_rules! exported {
+    ($($field:ident: $name:ident($($parameter:ident: $type:ty),* $(,)?) -> $answer:ty;)*) => {
+        extern "C" {
+            $(fn $name($($parameter: $type),*) -> $answer;)*
+        }
+
+        /// The exported calls of one library. Numbers and letters are those of the C header.
+        #[derive(Clone, Copy, Debug)]
+        pub struct Calls {
+            $($field: unsafe extern "C" fn($($type),*) -> $answer,)*
+        }
+
+        impl Calls {
+            /// Those of the static library that this crate is linked with.
+            pub const LINKED: Calls = Calls { $($field: $name,)* };
+
+            /// Those that are found by name in a library that is loaded at run time.
+            ///
+            /// # Errors
+            /// The first name under which none is found.
+            ///
+            /// # Safety
+            /// What is found is the function of that name of a library as this crate is linked
+            /// with, and stays loaded.
+            pub unsafe fn loaded(
+                find: impl Fn(&'static str) -> Option<NonNull<c_void>>,
+            ) -> Result<Calls, &'static str> {
+                Ok(Calls {
+                    $($field: match find(stringify!($name)) {
+                        // SAFETY: the caller vouches for the type of what it finds.
+                        Some(found) => unsafe { transmute::<NonNull<c_void>, _>(found) },
+                        None => return Err(stringify!($name)),
+                    },)*
+                })
+            }
+        }
+    };
+}
+
+exported! {
+    open: oskhrein_open(
+        monitor: *mut Monitor,
+        users: u8,
+        roles: u8,
+        words: *const u32,
+        n_words: usize,
+        rows: *const u16,
+        n_rows: usize,
+    ) -> u8;
+    event: oskhrein_event(
+        monitor: *mut Monitor,
+        word: u32,
+        workspace: *mut u32,
+        n_workspace: usize,
+    ) -> u8;
+    status: oskhrein_status(
+        monitor: *const Monitor,
+        workspace: *mut u32,
+        n_workspace: usize,
+    ) -> u8;
+    satisfies: oskhrein_satisfies(
+        users: u8,
+        roles: u8,
+        words: *const u32,
+        n_words: usize,
+        rows: *const u16,
+        n_rows: usize,
+        counts: *const [u8; MAX_USERS],
+        workspace: *mut u32,
+        n_workspace: usize,
+    ) -> u8;
+    normal_form: oskhrein_normal_form(
+        users: u8,
+        roles: u8,
+        words: *const u32,
+        n_words: usize,
+        out: *mut u32,
+        n_out: usize,
+    ) -> u8;
+}
+
+impl Calls {
+    /// Opens a monitor. A refusal leaves the blank one.
+    ///
+    /// # Panics
+    /// If the mark of what is lent is neither 0 nor 1.
+    pub fn open(
+        &self,
+        monitor: &mut Monitor,
+        users: u8,
+        roles: u8,
+        words: &[u32],
+        rows: &[u16],
+    ) -> u8 {
+        assert_mark(monitor);
+        let (words, n_words) = (words.as_ptr(), words.len());
+        let (rows, n_rows) = (rows.as_ptr(), rows.len());
+        // SAFETY: 1 and 2 by the parameters' types; 3 by the assertion.
+        unsafe { (self.open)(monitor, users, roles, words, n_words, rows, n_rows) }
+    }
+
+    /// One event.
+    ///
+    /// # Panics
+    /// If the mark of what is lent is neither 0 nor 1.
+    pub fn event(&self, monitor: &mut Monitor, word: u32, workspace: &mut [u32]) -> u8 {
+        assert_mark(monitor);
+        let (workspace, n_workspace) = (workspace.as_mut_ptr(), workspace.len());
+        // SAFETY: 1 and 2 by the parameters' types; 3 by the assertion.
+        unsafe { (self.event)(monitor, word, workspace, n_workspace) }
+    }
+
+    /// The status.
+    ///
+    /// # Panics
+    /// If the mark of what is lent is neither 0 nor 1.
+    pub fn status(&self, monitor: &Monitor, workspace: &mut [u32]) -> u8 {
+        assert_mark(monitor);
+        let (workspace, n_workspace) = (workspace.as_mut_ptr(), workspace.len());
+        // SAFETY: 1 and 2 by the parameters' types; 3 by the assertion.
+        unsafe { (self.status)(monitor, workspace, n_workspace) }
+    }
+
+    /// The multiset test.
+    pub fn satisfies(
+        &self,
+        users: u8,
+        roles: u8,
+        words: &[u32],
+        rows: &[u16],
+        counts: &[u8; MAX_USERS],
+        workspace: &mut [u32],
+    ) -> u8 {
+        let (words, n_words) = (words.as_ptr(), words.len());
+        let (rows, n_rows) = (rows.as_ptr(), rows.len());
+        let (space, n_space) = (workspace.as_mut_ptr(), workspace.len());
+        // SAFETY: 1 and 2 by the parameters' types; 3 asks nothing, since no monitor is lent.
+        unsafe {
+            (self.satisfies)(users, roles, words, n_words, rows, n_rows, counts, space, n_space)
+        }
+    }
+
+    /// The normal form.
+    pub fn normal_form(&self, users: u8, roles: u8, words: &[u32], out: &mut [u32]) -> u8 {
+        let (words, n_words) = (words.as_ptr(), words.len());
+        let (out, n_out) = (out.as_mut_ptr(), out.len());
+        // SAFETY: 1 and 2 by the parameters' types; 3 asks nothing, since no monitor is lent.
+        unsafe { (self.normal_form)(users, roles, words, n_words, out, n_out) }
+    }
+}
+
+/// What the library asks of a monitor before it reads one.
+fn assert_mark(monitor: &Monitor) {
+    let mark = monitor.closed;
+    assert!(mark <= 1, "the closed mark is {mark}, which is neither 0 nor 1");
+}
