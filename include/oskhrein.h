@@ -1,14 +1,14 @@
 /*
- * Oskhrein, the separation-of-duty monitor, as a desk program links it: libembed.a.
+ * Oskhrein, the separation-of-duty monitor, as a desk program links it: liboskhrein.a.
  *
  * A call keeps no state and allocates nothing; it reads and writes only what it is lent, and takes up to 128 KiB of stack. Every
- * answer is one byte.
+ * answer but the two of oskhrein_version and oskhrein_layout is one byte.
  *
  * The caller owes, for every call:
  * - Each pointer is aligned, not null, and valid for its length, which counts elements and follows the pointer; an array of length 0
  *   needs a pointer too. What one call is lent does not overlap.
- * - An instance is initialised, and its `closed` is 0 or 1. Zeroed memory is such an instance. oskhrein_open needs it too, though it
- *   replaces what it finds.
+ * - A monitor is initialised, and its `closed` is 0 or 1. OSKHREIN_BLANK, or zeroed memory, is such a monitor. oskhrein_open needs it
+ *   too, though it replaces what it finds.
  * - Nobody else writes what a call is lent while it runs. Calls on separate memory may run at the same time.
  *
  * Everything else may be wrong: the call then answers a number.
@@ -18,6 +18,16 @@
 
 #include <stddef.h>
 #include <stdint.h>
+
+/* The version of this header. oskhrein_version gives that of the library: it is to be OSKHREIN_VERSION. */
+#define OSKHREIN_VERSION_MAJOR 0
+#define OSKHREIN_VERSION_MINOR 1
+#define OSKHREIN_VERSION_PATCH 0
+#define OSKHREIN_VERSION (OSKHREIN_VERSION_MAJOR * 65536u + OSKHREIN_VERSION_MINOR * 256u + OSKHREIN_VERSION_PATCH)
+
+/* The number of the layout of struct oskhrein_monitor, another one whenever the struct is another. Keep it beside a stored monitor, and
+ * reload only what was stored under the same number. oskhrein_layout gives that of the library. */
+#define OSKHREIN_LAYOUT 1
 
 #ifdef __cplusplus
 extern "C" {
@@ -41,14 +51,14 @@ enum {
     OSKHREIN_MALFORMED = 7,      /* event word out of layout, or user or role not declared; a count above 0 for a user not declared */
     OSKHREIN_FULL = 8,           /* twelve actions taken already; a multiset of more than twelve */
     OSKHREIN_NOT_POSSIBLE = 9,   /* the actions with this one are not possible */
-    OSKHREIN_CLOSED = 10,        /* the instance is closed */
+    OSKHREIN_CLOSED = 10,        /* the monitor is closed */
     OSKHREIN_NOT_SATISFIED = 11, /* close, but the taken actions do not satisfy */
 
     /* Program that calls. */
     OSKHREIN_WORKSPACE = 12, /* workspace below 8,192 words */
     OSKHREIN_OUTPUT = 13,    /* output shorter than the policy */
     OSKHREIN_CASE = 14,      /* case file malformed; no call of this header reads one */
-    OSKHREIN_INSTANCE = 15   /* instance malformed: see oskhrein_event */
+    OSKHREIN_MONITOR = 15    /* monitor malformed: see oskhrein_event */
 };
 
 /* The letters, which are no numbers of refusals. */
@@ -60,10 +70,44 @@ enum {
     OSKHREIN_NO = 'n'
 };
 
+/* Kinds of policy words: see oskhrein_open. The operand of all but a role and a set is 0. */
+enum {
+    OSKHREIN_KIND_EVERYONE = 1,
+    OSKHREIN_KIND_ROLE = 2,     /* operand: the role's number */
+    OSKHREIN_KIND_SET = 3,      /* operand: a mask of users, not zero, bit u for user u */
+    OSKHREIN_KIND_NOT = 4,      /* one side */
+    OSKHREIN_KIND_PLUS = 5,     /* one side */
+    OSKHREIN_KIND_EITHER = 6,   /* two sides */
+    OSKHREIN_KIND_BOTH = 7,     /* two sides */
+    OSKHREIN_KIND_TOGETHER = 8, /* two sides */
+    OSKHREIN_KIND_APART = 9     /* two sides */
+};
+
+/* Kinds of events: see oskhrein_event. */
+enum {
+    OSKHREIN_EVENT_ACTION = 1,
+    OSKHREIN_EVENT_GRANT = 2,
+    OSKHREIN_EVENT_REVOKE = 3,
+    OSKHREIN_EVENT_CLOSE = 4
+};
+
+/* A policy word. */
+static inline uint32_t oskhrein_policy_word(uint8_t kind, uint16_t operand)
+{
+    return (uint32_t)kind << 24 | operand;
+}
+
+/* An event: a kind, the user, and the action's number or the role; a close has 0 for both. */
+static inline uint32_t oskhrein_event_word(uint8_t kind, uint8_t user, uint8_t action_or_role)
+{
+    return (uint32_t)kind << 24 | (uint32_t)user << 8 | action_or_role;
+}
+
 /* Lengths. */
 enum {
     OSKHREIN_MAX_WORDS = 31,
     OSKHREIN_MAX_USERS = 16,
+    OSKHREIN_MAX_ROLES = 16,
     OSKHREIN_MAX_ACTIONS = 12,
     OSKHREIN_WORKSPACE_WORDS = 8192
 };
@@ -74,9 +118,9 @@ struct oskhrein_action {
     uint32_t met;
 };
 
-/* An instance: the policy and its word count, the counts, the roles that each user holds (bit r for role r), the taken actions in
- * order of arrival and their number, and the closed mark. What is unused is zero. */
-struct oskhrein_instance {
+/* A monitor: the policy and its word count, the counts, the roles that each user holds (bit r for role r), the taken actions in order
+ * of arrival and their number, and the closed mark. What is unused is zero. */
+struct oskhrein_monitor {
     uint32_t policy[OSKHREIN_MAX_WORDS];
     uint8_t words;
     uint8_t users;
@@ -87,6 +131,22 @@ struct oskhrein_instance {
     uint8_t closed; /* 0 or 1 */
 };
 
+/* What a monitor is initialised with: all zero. */
+#ifdef __cplusplus
+#define OSKHREIN_BLANK {}
+#else
+#define OSKHREIN_BLANK {0}
+#endif
+
+/* The struct is as the library has it. A compiler of C99 or C++98 cannot say so. */
+#if defined __cplusplus && __cplusplus >= 201103L
+static_assert(sizeof(struct oskhrein_monitor) == 260, "a monitor has 260 bytes");
+static_assert(alignof(struct oskhrein_monitor) == 4, "a monitor stands at a multiple of 4");
+#elif defined __STDC_VERSION__ && __STDC_VERSION__ >= 201112L
+_Static_assert(sizeof(struct oskhrein_monitor) == 260, "a monitor has 260 bytes");
+_Static_assert(_Alignof(struct oskhrein_monitor) == 4, "a monitor stands at a multiple of 4");
+#endif
+
 /*
  * The workspace: at least OSKHREIN_WORKSPACE_WORDS words. Where a call fills it, it speaks of n actions, bit j of a mask standing for
  * the one at place j, from 0. Word s, for each s below 2^n, holds in bit i whether the set with mask s satisfies the term at policy
@@ -95,23 +155,22 @@ struct oskhrein_instance {
  */
 
 /*
- * Opens an instance under a policy of n_words words, with one row of roles for each user.
+ * Opens a monitor under a policy of n_words words, with one row of roles for each user.
  *
  * The policy is one term in prefix order: a word, then its sides. The kind is in bits 24 to 31 of a word, the operand in bits 0 to 15,
- * and bits 16 to 23 are zero: 1 everyone, 2 a role (its number), 3 a set (a mask of users), 4 not and 5 plus (one side), 6 either,
- * 7 both, 8 together and 9 apart (two sides). The operand of the others is 0.
+ * and bits 16 to 23 are zero: see the kinds above and oskhrein_policy_word.
  *
  * Answers OSKHREIN_ACCEPTED, or the first that applies of OSKHREIN_COUNTS, OSKHREIN_WORD_COUNT, OSKHREIN_WORD, OSKHREIN_TERM,
  * OSKHREIN_UNIT, OSKHREIN_ROWS.
  *
- * Leaves in *instance what was opened: the policy, the counts and the rows, zeros behind them, no action, and not closed. A refusal
- * leaves the blank instance there, all zero. words and rows are only read.
+ * Leaves in *monitor what was opened: the policy, the counts and the rows, zeros behind them, no action, and not closed. A refusal
+ * leaves the blank monitor there, all zero. words and rows are only read.
  */
-uint8_t oskhrein_open(struct oskhrein_instance *instance, uint8_t users, uint8_t roles, const uint32_t *words, size_t n_words,
+uint8_t oskhrein_open(struct oskhrein_monitor *monitor, uint8_t users, uint8_t roles, const uint32_t *words, size_t n_words,
                       const uint16_t *rows, size_t n_rows);
 
 /*
- * One event on an instance. The kind is in bits 24 to 31 of its word, bits 16 to 23 are zero, the user is in bits 8 to 15:
+ * One event on a monitor. The kind is in bits 24 to 31 of its word, bits 16 to 23 are zero, the user is in bits 8 to 15:
  *   1 action    bits 0 to 7 are the action's number, any value, not judged or kept
  *   2 grant     bits 0 to 7 are a role; one held already is accepted and alters nothing
  *   3 revoke    bits 0 to 7 are a role; one not held is accepted and alters nothing
@@ -119,7 +178,7 @@ uint8_t oskhrein_open(struct oskhrein_instance *instance, uint8_t users, uint8_t
  *
  * Answers OSKHREIN_ACCEPTED, or the first that applies of
  *   OSKHREIN_WORKSPACE      n_workspace below 8,192
- *   OSKHREIN_INSTANCE       the instance's policy, counts or rows would be refused; above twelve actions; an action by a user not
+ *   OSKHREIN_MONITOR        the monitor's policy, counts or rows would be refused; above twelve actions; an action by a user not
  *                           declared, or with a bit at a word that begins no unit term; an unused place, policy word or row not zero
  *   OSKHREIN_CLOSED         whatever the word is
  *   OSKHREIN_MALFORMED
@@ -127,23 +186,23 @@ uint8_t oskhrein_open(struct oskhrein_instance *instance, uint8_t users, uint8_t
  *   OSKHREIN_NOT_POSSIBLE   an action only
  *   OSKHREIN_NOT_SATISFIED  a close only
  *
- * Leaves in *instance, where it answers 0, the one part that the event alters: an action the next place and their number, a grant or
- * revocation one bit, a close the mark. Any other answer leaves *instance as it was.
+ * Leaves in *monitor, where it answers 0, the one part that the event alters: an action the next place and their number, a grant or
+ * revocation one bit, a close the mark. Any other answer leaves *monitor as it was.
  *
  * Leaves the workspace filled for the taken actions with the tried one after an action answered 0 or 9, and for the taken actions
  * after a close answered 0 or 11. After any other event or answer it is as it was.
  */
-uint8_t oskhrein_event(struct oskhrein_instance *instance, uint32_t word, uint32_t *workspace, size_t n_workspace);
+uint8_t oskhrein_event(struct oskhrein_monitor *monitor, uint32_t word, uint32_t *workspace, size_t n_workspace);
 
 /*
- * The status of an instance.
+ * The status of a monitor.
  *
- * Answers OSKHREIN_WORKSPACE or OSKHREIN_INSTANCE, the first that applies, as oskhrein_event does; else OSKHREIN_STATUS_CLOSED if it
+ * Answers OSKHREIN_WORKSPACE or OSKHREIN_MONITOR, the first that applies, as oskhrein_event does; else OSKHREIN_STATUS_CLOSED if it
  * is closed, else OSKHREIN_STATUS_COMPLETE if the taken actions satisfy the policy, else OSKHREIN_STATUS_OPEN.
  *
- * Leaves the workspace filled for the taken actions; a refusal leaves it as it was. *instance is only read.
+ * Leaves the workspace filled for the taken actions; a refusal leaves it as it was. *monitor is only read.
  */
-uint8_t oskhrein_status(const struct oskhrein_instance *instance, uint32_t *workspace, size_t n_workspace);
+uint8_t oskhrein_status(const struct oskhrein_monitor *monitor, uint32_t *workspace, size_t n_workspace);
 
 /*
  * Whether a multiset of users satisfies a policy: user u occurs counts[u] times. The empty multiset does not.
@@ -167,6 +226,13 @@ uint8_t oskhrein_satisfies(uint8_t users, uint8_t roles, const uint32_t *words, 
  * only read.
  */
 uint8_t oskhrein_normal_form(uint8_t users, uint8_t roles, const uint32_t *words, size_t n_words, uint32_t *out, size_t n_out);
+
+/* The version of the library, as OSKHREIN_VERSION writes it. */
+uint32_t oskhrein_version(void);
+
+/* The number of the layout that the library has, as OSKHREIN_LAYOUT. A program that finds another one was compiled with the header of
+ * another library, and must not lend it a monitor. */
+uint32_t oskhrein_layout(void);
 
 #ifdef __cplusplus
 }

@@ -1,4 +1,4 @@
-/* Document 01's listing L and settled examples through the C header and the static library. */
+/* Document 01's listing L and settled examples through the header and the static library, from C and from C++. */
 #include "oskhrein.h"
 
 #include <stddef.h>
@@ -48,7 +48,7 @@ static int workspace_is(uint32_t value)
     return 1;
 }
 
-static int same(const struct oskhrein_instance *a, const struct oskhrein_instance *b)
+static int same(const struct oskhrein_monitor *a, const struct oskhrein_monitor *b)
 {
     if (memcmp(a->policy, b->policy, sizeof a->policy) != 0 || memcmp(a->user_roles, b->user_roles, sizeof a->user_roles) != 0) {
         return 0;
@@ -61,52 +61,74 @@ static int same(const struct oskhrein_instance *a, const struct oskhrein_instanc
     return a->words == b->words && a->users == b->users && a->roles == b->roles && a->taken == b->taken && a->closed == b->closed;
 }
 
-static uint8_t open_l(struct oskhrein_instance *instance)
+static uint8_t open_l(struct oskhrein_monitor *monitor)
 {
-    return oskhrein_open(instance, 3, 3, POLICY_F, WORDS_F, ROWS_L, 3);
+    return oskhrein_open(monitor, 3, 3, POLICY_F, WORDS_F, ROWS_L, 3);
 }
 
-static void layout(void)
+static void version_and_layout(void)
 {
+    CHECK(oskhrein_version() == OSKHREIN_VERSION);
+    CHECK(oskhrein_layout() == OSKHREIN_LAYOUT);
     CHECK(sizeof(struct oskhrein_action) == 8);
     CHECK(offsetof(struct oskhrein_action, met) == 4);
-    CHECK(sizeof(struct oskhrein_instance) == 260);
-    CHECK(offsetof(struct oskhrein_instance, policy) == 0);
-    CHECK(offsetof(struct oskhrein_instance, words) == 124);
-    CHECK(offsetof(struct oskhrein_instance, users) == 125);
-    CHECK(offsetof(struct oskhrein_instance, roles) == 126);
-    CHECK(offsetof(struct oskhrein_instance, user_roles) == 128);
-    CHECK(offsetof(struct oskhrein_instance, actions) == 160);
-    CHECK(offsetof(struct oskhrein_instance, taken) == 256);
-    CHECK(offsetof(struct oskhrein_instance, closed) == 257);
+    CHECK(sizeof(struct oskhrein_monitor) == 260);
+    CHECK(offsetof(struct oskhrein_monitor, policy) == 0);
+    CHECK(offsetof(struct oskhrein_monitor, words) == 124);
+    CHECK(offsetof(struct oskhrein_monitor, users) == 125);
+    CHECK(offsetof(struct oskhrein_monitor, roles) == 126);
+    CHECK(offsetof(struct oskhrein_monitor, user_roles) == 128);
+    CHECK(offsetof(struct oskhrein_monitor, actions) == 160);
+    CHECK(offsetof(struct oskhrein_monitor, taken) == 256);
+    CHECK(offsetof(struct oskhrein_monitor, closed) == 257);
 }
 
-/* The opened instance, field by field: what the library writes is what the header reads. */
+/* Words as the functions of the header make them. */
+static void made_words(void)
+{
+    const uint32_t policy[] = {
+        oskhrein_policy_word(OSKHREIN_KIND_TOGETHER, 0), oskhrein_policy_word(OSKHREIN_KIND_APART, 0),
+        oskhrein_policy_word(OSKHREIN_KIND_ROLE, 0),     oskhrein_policy_word(OSKHREIN_KIND_EITHER, 0),
+        oskhrein_policy_word(OSKHREIN_KIND_ROLE, 2),     oskhrein_policy_word(OSKHREIN_KIND_APART, 0),
+        oskhrein_policy_word(OSKHREIN_KIND_ROLE, 0),     oskhrein_policy_word(OSKHREIN_KIND_ROLE, 0),
+        oskhrein_policy_word(OSKHREIN_KIND_PLUS, 0),     oskhrein_policy_word(OSKHREIN_KIND_EVERYONE, 0),
+    };
+    CHECK(sizeof policy == sizeof POLICY_F && memcmp(policy, POLICY_F, sizeof policy) == 0);
+    CHECK(oskhrein_policy_word(OSKHREIN_KIND_SET, 0x8001) == 0x03008001);
+    CHECK(oskhrein_policy_word(OSKHREIN_KIND_NOT, 0) == 0x04000000);
+    CHECK(oskhrein_policy_word(OSKHREIN_KIND_BOTH, 0) == 0x07000000);
+    CHECK(oskhrein_event_word(OSKHREIN_EVENT_ACTION, 2, 3) == 0x01000203);
+    CHECK(oskhrein_event_word(OSKHREIN_EVENT_GRANT, 1, 2) == 0x02000102);
+    CHECK(oskhrein_event_word(OSKHREIN_EVENT_REVOKE, 255, 255) == 0x0300ffff);
+    CHECK(oskhrein_event_word(OSKHREIN_EVENT_CLOSE, 0, 0) == 0x04000000);
+}
+
+/* The opened monitor, field by field: what the library writes is what the header reads. */
 static void opening(void)
 {
-    static const struct oskhrein_instance blank;
-    struct oskhrein_instance want = blank;
-    struct oskhrein_instance instance;
+    static const struct oskhrein_monitor blank = OSKHREIN_BLANK;
+    struct oskhrein_monitor want = blank;
+    struct oskhrein_monitor monitor;
 
     memcpy(want.policy, POLICY_F, sizeof POLICY_F);
     memcpy(want.user_roles, ROWS_L, sizeof ROWS_L);
     want.words = WORDS_F;
     want.users = 3;
     want.roles = 3;
-    memset(&instance, 1, sizeof instance);
-    CHECK(open_l(&instance) == OSKHREIN_ACCEPTED);
-    CHECK(same(&instance, &want));
+    memset(&monitor, 1, sizeof monitor);
+    CHECK(open_l(&monitor) == OSKHREIN_ACCEPTED);
+    CHECK(same(&monitor, &want));
 
-    CHECK(oskhrein_open(&instance, 17, 3, POLICY_F, WORDS_F, ROWS_L, 3) == OSKHREIN_COUNTS);
-    CHECK(same(&instance, &blank));
-    CHECK(open_l(&instance) == OSKHREIN_ACCEPTED);
-    CHECK(oskhrein_open(&instance, 3, 3, POLICY_F, WORDS_F, ROWS_L, 2) == OSKHREIN_ROWS);
-    CHECK(same(&instance, &blank));
-    CHECK(oskhrein_open(&instance, 3, 3, POLICY_F, 0, ROWS_L, 3) == OSKHREIN_WORD_COUNT);
-    CHECK(oskhrein_open(&instance, 3, 2, POLICY_F, WORDS_F, ROWS_L, 3) == OSKHREIN_WORD);
-    CHECK(oskhrein_open(&instance, 3, 3, POLICY_F, WORDS_F - 1, ROWS_L, 3) == OSKHREIN_TERM);
+    CHECK(oskhrein_open(&monitor, 17, 3, POLICY_F, WORDS_F, ROWS_L, 3) == OSKHREIN_COUNTS);
+    CHECK(same(&monitor, &blank));
+    CHECK(open_l(&monitor) == OSKHREIN_ACCEPTED);
+    CHECK(oskhrein_open(&monitor, 3, 3, POLICY_F, WORDS_F, ROWS_L, 2) == OSKHREIN_ROWS);
+    CHECK(same(&monitor, &blank));
+    CHECK(oskhrein_open(&monitor, 3, 3, POLICY_F, 0, ROWS_L, 3) == OSKHREIN_WORD_COUNT);
+    CHECK(oskhrein_open(&monitor, 3, 2, POLICY_F, WORDS_F, ROWS_L, 3) == OSKHREIN_WORD);
+    CHECK(oskhrein_open(&monitor, 3, 3, POLICY_F, WORDS_F - 1, ROWS_L, 3) == OSKHREIN_TERM);
     static const uint32_t plus_over_together[] = {0x05000000, 0x08000000, 0x01000000, 0x01000000};
-    CHECK(oskhrein_open(&instance, 3, 3, plus_over_together, 4, ROWS_L, 3) == OSKHREIN_UNIT);
+    CHECK(oskhrein_open(&monitor, 3, 3, plus_over_together, 4, ROWS_L, 3) == OSKHREIN_UNIT);
 }
 
 static void listing_l(void)
@@ -114,18 +136,18 @@ static void listing_l(void)
     static const uint32_t events[] = {0x01000001, 0x01000102, 0x02000102, 0x02000202, 0x04000000,
                                       0x01000203, 0x01000004, 0x04000000, 0x01000004};
     static const char *const want[] = {"1 0 o", "2 0 o", "3 0 o", "4 0 o", "5 11 o", "6 0 c", "7 0 c", "8 0 d", "9 10 d"};
-    struct oskhrein_instance instance = {0};
+    struct oskhrein_monitor monitor = OSKHREIN_BLANK;
     char line[32];
 
     fill_workspace(GUARD);
-    check(open_l(&instance) == OSKHREIN_ACCEPTED, "listing L opens");
+    check(open_l(&monitor) == OSKHREIN_ACCEPTED, "listing L opens");
     for (size_t i = 0; i < sizeof events / sizeof *events; i++) {
-        unsigned code = oskhrein_event(&instance, events[i], workspace, OSKHREIN_WORKSPACE_WORDS);
-        unsigned letter = oskhrein_status(&instance, workspace, OSKHREIN_WORKSPACE_WORDS);
+        unsigned code = oskhrein_event(&monitor, events[i], workspace, OSKHREIN_WORKSPACE_WORDS);
+        unsigned letter = oskhrein_status(&monitor, workspace, OSKHREIN_WORKSPACE_WORDS);
         snprintf(line, sizeof line, "%u %u %c", (unsigned)i + 1, code, (char)letter);
         check(strcmp(line, want[i]) == 0, want[i]);
     }
-    snprintf(line, sizeof line, "taken %u", (unsigned)instance.taken);
+    snprintf(line, sizeof line, "taken %u", (unsigned)monitor.taken);
     check(strcmp(line, "taken 4") == 0, "taken 4");
     check(workspace[OSKHREIN_WORKSPACE_WORDS] == GUARD, "words from 8,192 on stay");
     /* All four taken actions satisfy the policy, none of them satisfies it alone. */
@@ -154,29 +176,29 @@ static void multisets(void)
     CHECK(workspace_is(GUARD));
 }
 
-/* A refusal gives only its number: instance and workspace keep what they had, but for 9 and 11 the workspace. */
+/* A refusal gives only its number: monitor and workspace keep what they had, but for 9 and 11 the workspace. */
 static void refusals(void)
 {
-    struct oskhrein_instance instance = {0};
-    struct oskhrein_instance before;
+    struct oskhrein_monitor monitor = OSKHREIN_BLANK;
+    struct oskhrein_monitor before;
 
-    CHECK(open_l(&instance) == OSKHREIN_ACCEPTED);
-    before = instance;
+    CHECK(open_l(&monitor) == OSKHREIN_ACCEPTED);
+    before = monitor;
     fill_workspace(GUARD);
-    CHECK(oskhrein_event(&instance, 0x01000001, workspace, OSKHREIN_WORKSPACE_WORDS - 1) == OSKHREIN_WORKSPACE);
-    CHECK(oskhrein_status(&instance, workspace, OSKHREIN_WORKSPACE_WORDS - 1) == OSKHREIN_WORKSPACE);
-    CHECK(oskhrein_event(&instance, 0x01000301, workspace, OSKHREIN_WORKSPACE_WORDS) == OSKHREIN_MALFORMED);
-    CHECK(same(&instance, &before) && workspace_is(GUARD));
+    CHECK(oskhrein_event(&monitor, 0x01000001, workspace, OSKHREIN_WORKSPACE_WORDS - 1) == OSKHREIN_WORKSPACE);
+    CHECK(oskhrein_status(&monitor, workspace, OSKHREIN_WORKSPACE_WORDS - 1) == OSKHREIN_WORKSPACE);
+    CHECK(oskhrein_event(&monitor, 0x01000301, workspace, OSKHREIN_WORKSPACE_WORDS) == OSKHREIN_MALFORMED);
+    CHECK(same(&monitor, &before) && workspace_is(GUARD));
 
-    check(oskhrein_event(&instance, 0x01000201, workspace, OSKHREIN_WORKSPACE_WORDS) == OSKHREIN_NOT_POSSIBLE, "P5");
-    CHECK(same(&instance, &before) && workspace[OSKHREIN_WORKSPACE_WORDS] == GUARD && !workspace_is(GUARD));
+    check(oskhrein_event(&monitor, 0x01000201, workspace, OSKHREIN_WORKSPACE_WORDS) == OSKHREIN_NOT_POSSIBLE, "P5");
+    CHECK(same(&monitor, &before) && workspace[OSKHREIN_WORKSPACE_WORDS] == GUARD && !workspace_is(GUARD));
 
-    instance.taken = 13;
-    before = instance;
+    monitor.taken = 13;
+    before = monitor;
     fill_workspace(GUARD);
-    CHECK(oskhrein_event(&instance, 0x01000001, workspace, OSKHREIN_WORKSPACE_WORDS) == OSKHREIN_INSTANCE);
-    CHECK(oskhrein_status(&instance, workspace, OSKHREIN_WORKSPACE_WORDS) == OSKHREIN_INSTANCE);
-    CHECK(same(&instance, &before) && workspace_is(GUARD));
+    CHECK(oskhrein_event(&monitor, 0x01000001, workspace, OSKHREIN_WORKSPACE_WORDS) == OSKHREIN_MONITOR);
+    CHECK(oskhrein_status(&monitor, workspace, OSKHREIN_WORKSPACE_WORDS) == OSKHREIN_MONITOR);
+    CHECK(same(&monitor, &before) && workspace_is(GUARD));
 }
 
 static void normal_forms(void)
@@ -203,7 +225,8 @@ static void normal_forms(void)
 
 int main(void)
 {
-    layout();
+    version_and_layout();
+    made_words();
     opening();
     listing_l();
     multisets();
