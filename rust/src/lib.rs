@@ -11,8 +11,8 @@
 //!
 //! # Policies
 //!
-//! A policy is 1 to 31 words in prefix order: a word, then its sides. The kind is in bits 24 to 31,
-//! the operand in bits 0 to 15, all else is zero.
+//! A policy is 1 to 31 words in prefix order: a word, then its sides. A [`Term`] makes them; the
+//! calls take any. The kind is in bits 24 to 31, the operand in bits 0 to 15, all else is zero.
 //!
 //! | kind | term | operand | sides |
 //! |---|---|---|---|
@@ -33,15 +33,15 @@
 //! more actions by anybody who holds a role.
 //!
 //! ```
-//! use oskhrein::{Event, Monitor, Refusal, Status, Workspace};
+//! use oskhrein::{Event, Monitor, Refusal, Status, Term, Workspace};
 //!
 //! # fn main() -> Result<(), Refusal> {
-//! let policy = [
-//!     0x08000000, 0x09000000, 0x02000000, 0x06000000, 0x02000002, 0x09000000, 0x02000000,
-//!     0x02000000, 0x05000000, 0x01000000,
-//! ];
+//! let (accountant, manager) = (Term::role(0)?, Term::role(2)?);
+//! let others = Term::either(manager, Term::apart(accountant, accountant)?)?;
+//! let duties = Term::apart(accountant, others)?;
+//! let policy = Term::together(duties, Term::plus(Term::everyone())?)?;
 //! let mut workspace = Workspace::new();
-//! let mut quote = Monitor::open(3, 3, &policy, &[2, 1, 0])?;
+//! let mut quote = Monitor::open(3, 3, policy.words(), &[2, 1, 0])?;
 //!
 //! quote.event(Event::Action { user: 0, number: 1 }, &mut workspace)?;
 //! quote.event(Event::Action { user: 1, number: 2 }, &mut workspace)?;
@@ -64,8 +64,8 @@
 //! # }
 //! ```
 
-#![deny(missing_docs)]
-#![deny(unsafe_code)]
+#![warn(missing_docs)]
+#![warn(unsafe_code)]
 
 mod event;
 mod monitor;
@@ -73,13 +73,15 @@ mod monitor;
 pub mod raw;
 mod refusal;
 mod status;
+mod term;
 mod workspace;
 
 pub use event::Event;
 pub use monitor::{Monitor, UnknownMark};
-pub use raw::{Action, MAX_ACTIONS, MAX_ROLES, MAX_USERS, MAX_WORDS};
+pub use raw::{Action, LAYOUT, MAX_ACTIONS, MAX_ROLES, MAX_USERS, MAX_WORDS};
 pub use refusal::Refusal;
 pub use status::Status;
+pub use term::Term;
 pub use workspace::Workspace;
 
 use raw::Calls;
@@ -99,13 +101,17 @@ use raw::Calls;
 /// Two different users who both hold role 0:
 ///
 /// ```
-/// let apart = [0x09000000, 0x02000000, 0x02000000];
+/// use oskhrein::Term;
+///
+/// let apart = Term::apart(Term::role(0)?, Term::role(0)?)?;
+/// let apart = apart.words();
 /// let mut workspace = oskhrein::Workspace::new();
 /// let mut counts = [0; oskhrein::MAX_USERS];
 /// counts[0] = 2;
-/// assert_eq!(oskhrein::satisfies(2, 1, &apart, &[1, 1], &counts, &mut workspace), Ok(false));
+/// assert_eq!(oskhrein::satisfies(2, 1, apart, &[1, 1], &counts, &mut workspace), Ok(false));
 /// counts[..2].copy_from_slice(&[1, 1]);
-/// assert_eq!(oskhrein::satisfies(2, 1, &apart, &[1, 1], &counts, &mut workspace), Ok(true));
+/// assert_eq!(oskhrein::satisfies(2, 1, apart, &[1, 1], &counts, &mut workspace), Ok(true));
+/// # Ok::<(), oskhrein::Refusal>(())
 /// ```
 pub fn satisfies(
     users: u8,
@@ -133,10 +139,12 @@ pub fn satisfies(
 /// # Example
 ///
 /// ```
-/// let (everyone, role, together) = (0x01000000, 0x02000000, 0x08000000);
+/// use oskhrein::Term;
+///
+/// let policy = Term::together(Term::role(0)?, Term::everyone())?;
 /// let mut out = [0; oskhrein::MAX_WORDS];
-/// let normal = oskhrein::normal_form(3, 3, &[together, role, everyone], &mut out)?;
-/// assert_eq!(normal, [together, everyone, role]);
+/// let normal = oskhrein::normal_form(3, 3, policy.words(), &mut out)?;
+/// assert_eq!(normal, Term::together(Term::everyone(), Term::role(0)?)?.words());
 /// # Ok::<(), oskhrein::Refusal>(())
 /// ```
 pub fn normal_form<'a>(

@@ -4,7 +4,7 @@ use std::error::Error;
 use std::fmt;
 
 use crate::event::Event;
-use crate::raw::{self, Action, Calls};
+use crate::raw::{self, Action, Calls, LAYOUT};
 use crate::refusal::{self, Refusal};
 use crate::status::Status;
 use crate::workspace::Workspace;
@@ -36,6 +36,7 @@ impl Monitor {
         policy: &[u32],
         user_roles: &[u16],
     ) -> Result<Monitor, Refusal> {
+        assert_layout();
         let mut raw = raw::Monitor::BLANK;
         refusal::accepted(Calls::LINKED.open(&mut raw, users, roles, policy, user_roles))?;
         Ok(Monitor { raw })
@@ -129,11 +130,18 @@ impl Monitor {
     /// # Errors
     /// If the closed mark is neither 0 nor 1.
     pub fn from_raw(raw: raw::Monitor) -> Result<Monitor, UnknownMark> {
+        assert_layout();
         match raw.closed {
             0 | 1 => Ok(Monitor { raw }),
             mark => Err(UnknownMark { mark }),
         }
     }
+}
+
+/// The library that is linked has this crate's layout. Every monitor is made behind this.
+fn assert_layout() {
+    let linked = Calls::LINKED.layout();
+    assert!(linked == LAYOUT, "the library linked has layout {linked}, this crate {LAYOUT}");
 }
 
 /// The first so many, or all if there are fewer.

@@ -19,7 +19,7 @@ use std::ffi::c_void;
 use std::mem::transmute;
 use std::ptr::NonNull;
 
-pub use layout::{Action, Monitor, MAX_ACTIONS, MAX_ROLES, MAX_USERS, MAX_WORDS};
+pub use layout::{Action, Monitor, LAYOUT, MAX_ACTIONS, MAX_ROLES, MAX_USERS, MAX_WORDS};
 
 /// How many words a workspace has at least.
 pub const WORKSPACE_WORDS: usize = 8192;
@@ -52,13 +52,14 @@ macro_rules! exported {
             pub unsafe fn loaded(
                 find: impl Fn(&'static str) -> Option<NonNull<c_void>>,
             ) -> Result<Calls, &'static str> {
-                Ok(Calls {
-                    $($field: match find(stringify!($name)) {
-                        // SAFETY: the caller vouches for the type of what it finds.
-                        Some(found) => unsafe { transmute::<NonNull<c_void>, _>(found) },
-                        None => return Err(stringify!($name)),
-                    },)*
-                })
+                $(
+                    let found = find(stringify!($name)).ok_or(stringify!($name))?;
+                    // SAFETY: the caller vouches for the type of what it finds.
+                    let $field = unsafe {
+                        transmute::<NonNull<c_void>, unsafe extern "C" fn($($type),*) -> $answer>(found)
+                    };
+                )*
+                Ok(Calls { $($field),* })
             }
         }
     };
@@ -104,6 +105,8 @@ exported! {
         out: *mut u32,
         n_out: usize,
     ) -> u8;
+    version: oskhrein_version() -> u32;
+    layout: oskhrein_layout() -> u32;
 }
 
 impl Calls {
@@ -173,6 +176,19 @@ impl Calls {
         let (out, n_out) = (out.as_mut_ptr(), out.len());
         // SAFETY: 1 and 2 by the parameters' types; 3 asks nothing, since no monitor is lent.
         unsafe { (self.normal_form)(users, roles, words, n_words, out, n_out) }
+    }
+
+    /// The version of the library: major, minor and patch number, a byte each, the patch lowest.
+    pub fn version(&self) -> u32 {
+        // SAFETY: nothing is lent.
+        unsafe { (self.version)() }
+    }
+
+    /// The number of the layout that the library has. It is [`LAYOUT`], or else the library is
+    /// another one than this crate was written for, and no monitor may be lent to it.
+    pub fn layout(&self) -> u32 {
+        // SAFETY: nothing is lent.
+        unsafe { (self.layout)() }
     }
 }
 

@@ -5,13 +5,15 @@ use std::fmt;
 
 use crate::status::Status;
 
-/// Why a call was refused; document 01 numbers the reasons from 1 to 15.
+/// Why a call was refused; document 01 numbers the reasons from 1 to 15. Later versions may have
+/// more.
 ///
 /// A refused call leaves everything as it was. Only after
 /// [`NotPossible`](Self::NotPossible) and [`NotSatisfied`](Self::NotSatisfied) does the workspace
 /// speak of the actions that were judged.
 #[derive(Clone, Copy, Debug, PartialEq, Eq, PartialOrd, Ord, Hash)]
 #[repr(u8)]
+#[non_exhaustive]
 pub enum Refusal {
     /// The policy has no word, or more than 31.
     WordCount = 1,
@@ -49,7 +51,7 @@ pub enum Refusal {
 
 impl Refusal {
     /// All of them, in the order of their numbers.
-    pub const ALL: [Refusal; 15] = [
+    pub const ALL: &'static [Refusal] = &[
         Refusal::WordCount,
         Refusal::Word,
         Refusal::Term,
@@ -154,9 +156,9 @@ mod tests {
 
     #[test]
     fn each_refusal_has_its_number() {
-        for (place, refusal) in Refusal::ALL.into_iter().enumerate() {
+        for (place, refusal) in Refusal::ALL.iter().enumerate() {
             assert_eq!(usize::from(refusal.number()), place + 1);
-            assert_eq!(Refusal::of_number(refusal.number()), Some(refusal));
+            assert_eq!(Refusal::of_number(refusal.number()), Some(*refusal));
         }
         assert_eq!(Refusal::of_number(0), None);
         assert_eq!(Refusal::of_number(16), None);
@@ -165,7 +167,7 @@ mod tests {
     #[test]
     fn the_texts_differ() {
         let texts: std::collections::BTreeSet<String> =
-            Refusal::ALL.into_iter().map(|refusal| refusal.to_string()).collect();
+            Refusal::ALL.iter().map(|refusal| refusal.to_string()).collect();
         assert_eq!(texts.len(), Refusal::ALL.len());
     }
 

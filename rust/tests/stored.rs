@@ -3,7 +3,8 @@
 mod common;
 
 use common::{open_l, step, EVENTS_L, POLICY_F};
-use oskhrein::{Event, Monitor, Refusal, Workspace};
+use oskhrein::raw::Calls;
+use oskhrein::{Event, Monitor, Refusal, Workspace, LAYOUT};
 
 /// The bytes of listing L's monitor with its first two actions.
 fn stored() -> [u8; Monitor::BYTES] {
@@ -53,6 +54,16 @@ fn bytes_are_in_the_layout_of_c() {
     assert_eq!(bytes[168..176], [1, 0, 0, 0, 1 << 2 | 1 << 6 | 1 << 7, 1 << 1, 0, 0]);
     assert_eq!(bytes[176..256], [0; 80]);
     assert_eq!(bytes[256..], [2, 0, 0, 0]);
+}
+
+#[test]
+fn the_library_has_this_version_and_layout() {
+    let part = |text: &str| text.parse::<u32>().expect("cargo gives numbers");
+    let major = part(env!("CARGO_PKG_VERSION_MAJOR"));
+    let minor = part(env!("CARGO_PKG_VERSION_MINOR"));
+    let patch = part(env!("CARGO_PKG_VERSION_PATCH"));
+    assert_eq!(Calls::LINKED.version(), major << 16 | minor << 8 | patch);
+    assert_eq!(Calls::LINKED.layout(), LAYOUT);
 }
 
 #[test]

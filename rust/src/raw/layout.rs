@@ -3,6 +3,10 @@
 
 use std::mem::{align_of, offset_of, size_of};
 
+/// The number of the layout below, another one whenever a field comes, goes, moves or means
+/// something else. Keep it beside stored bytes, and reload only what was stored under it.
+pub const LAYOUT: u32 = 1;
+
 /// The most words that a policy may have.
 pub const MAX_WORDS: usize = 31;
 
@@ -52,7 +56,8 @@ pub struct Monitor {
     pub closed: u8,
 }
 
-// The numbers of the C header.
+// Layout 1, with the numbers of the C header. What alters a line here alters `LAYOUT`, in the header
+// and in embed too.
 const _: () = {
     assert!(size_of::<Action>() == 8);
     assert!(offset_of!(Action, user) == 0);

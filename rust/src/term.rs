@@ -1,0 +1,156 @@
+//! Policies as terms.
+
+use crate::raw::{MAX_ROLES, MAX_USERS, MAX_WORDS};
+use crate::refusal::Refusal;
+
+const EVERYONE: u32 = 1;
+const ROLE: u32 = 2;
+const SET: u32 = 3;
+const NOT: u32 = 4;
+const PLUS: u32 = 5;
+const EITHER: u32 = 6;
+const BOTH: u32 = 7;
+const TOGETHER: u32 = 8;
+const APART: u32 = 9;
+
+/// A policy, put together from smaller ones.
+///
+/// Its [`words`](Self::words) are in the layout, exactly one term, at most 31, and not and plus stand
+/// over unit terms only. So a call refuses them only if they name a user or role that is not
+/// declared. A part that cannot be made is refused as the call would refuse it.
+///
+/// # Example
+///
+/// One counts (role 0), another approves (role 1), and besides anybody but user 3 may act:
+///
+/// ```
+/// use oskhrein::{Monitor, Refusal, Term};
+///
+/// # fn main() -> Result<(), Refusal> {
+/// let duties = Term::apart(Term::role(0)?, Term::role(1)?)?;
+/// let others = Term::plus(Term::not(Term::set(&[3])?)?)?;
+/// let policy = Term::either(duties, Term::together(duties, others)?)?;
+/// Monitor::open(4, 2, policy.words(), &[1, 2, 3, 1])?;
+/// assert_eq!(Term::role(16), Err(Refusal::Word));
+/// assert_eq!(Term::plus(duties), Err(Refusal::Unit));
+/// # Ok(())
+/// # }
+/// ```
+#[derive(Clone, Copy, Debug, PartialEq, Eq, Hash)]
+pub struct Term {
+    words: [u32; MAX_WORDS],
+    length: usize,
+    unit: bool,
+}
+
+impl Term {
+    /// One action of a user who holds some role.
+    pub fn everyone() -> Term {
+        Term::leaf(EVERYONE, 0)
+    }
+
+    /// One action of a user who holds the role.
+    ///
+    /// # Errors
+    /// [`Word`](Refusal::Word) if the role is not 0 to 15.
+    pub fn role(role: u8) -> Result<Term, Refusal> {
+        if usize::from(role) < MAX_ROLES {
+            Ok(Term::leaf(ROLE, role.into()))
+        } else {
+            Err(Refusal::Word)
+        }
+    }
+
+    /// One action of one of these users, who holds some role.
+    ///
+    /// # Errors
+    /// [`Word`](Refusal::Word) if there is no user, or one is not 0 to 15.
+    pub fn set(users: &[u8]) -> Result<Term, Refusal> {
+        if users.is_empty() || users.iter().any(|user| usize::from(*user) >= MAX_USERS) {
+            return Err(Refusal::Word);
+        }
+        Ok(Term::leaf(SET, users.iter().fold(0, |mask, user| mask | 1 << user)))
+    }
+
+    /// One action of a user who does not meet the inner term.
+    ///
+    /// # Errors
+    /// [`WordCount`](Refusal::WordCount) if it has more than 31 words, [`Unit`](Refusal::Unit) if
+    /// the inner term is no unit term: it has a plus, together or apart in it.
+    #[allow(clippy::should_implement_trait)] // the trait's method cannot refuse
+    pub fn not(inner: Term) -> Result<Term, Refusal> {
+        Term::of(NOT, &[inner], true)?.over_unit(inner)
+    }
+
+    /// One or more actions, each of a user who meets the inner term.
+    ///
+    /// # Errors
+    /// As [`not`](Self::not).
+    pub fn plus(inner: Term) -> Result<Term, Refusal> {
+        Term::of(PLUS, &[inner], false)?.over_unit(inner)
+    }
+
+    /// The actions satisfy one side, or the other.
+    ///
+    /// # Errors
+    /// [`WordCount`](Refusal::WordCount) if it has more than 31 words.
+    pub fn either(left: Term, right: Term) -> Result<Term, Refusal> {
+        Term::of(EITHER, &[left, right], left.unit && right.unit)
+    }
+
+    /// The same actions satisfy both sides.
+    ///
+    /// # Errors
+    /// [`WordCount`](Refusal::WordCount) if it has more than 31 words.
+    pub fn both(left: Term, right: Term) -> Result<Term, Refusal> {
+        Term::of(BOTH, &[left, right], left.unit && right.unit)
+    }
+
+    /// The actions fall into two parts, one for each side; a user may act in both.
+    ///
+    /// # Errors
+    /// [`WordCount`](Refusal::WordCount) if it has more than 31 words.
+    pub fn together(left: Term, right: Term) -> Result<Term, Refusal> {
+        Term::of(TOGETHER, &[left, right], false)
+    }
+
+    /// The actions fall into two parts, one for each side, and no user acts in both.
+    ///
+    /// # Errors
+    /// [`WordCount`](Refusal::WordCount) if it has more than 31 words.
+    pub fn apart(left: Term, right: Term) -> Result<Term, Refusal> {
+        Term::of(APART, &[left, right], false)
+    }
+
+    /// The policy's words, as the calls take them.
+    pub fn words(&self) -> &[u32] {
+        &self.words[..self.length]
+    }
+
+    /// A term of one word.
+    fn leaf(kind: u32, operand: u16) -> Term {
+        let mut words = [0; MAX_WORDS];
+        words[0] = kind << 24 | u32::from(operand);
+        Term { words, length: 1, unit: true }
+    }
+
+    /// An operator and its sides.
+    fn of(kind: u32, sides: &[Term], unit: bool) -> Result<Term, Refusal> {
+        let mut term = Term { unit, ..Term::leaf(kind, 0) };
+        for side in sides {
+            let place = term.words[term.length..].get_mut(..side.length);
+            place.ok_or(Refusal::WordCount)?.copy_from_slice(side.words());
+            term.length += side.length;
+        }
+        Ok(term)
+    }
+
+    /// The term, if what it stands over is a unit term.
+    fn over_unit(self, inner: Term) -> Result<Term, Refusal> {
+        if inner.unit {
+            Ok(self)
+        } else {
+            Err(Refusal::Unit)
+        }
+    }
+}
