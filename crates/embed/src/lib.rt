@@ -13,6 +13,12 @@ use monitor::Monitor;
 use monitor::Status;
 use monitor::Verdict;
 
+// The version, 0.1.0: major, minor and patch number, a byte each.
+const VERSION: u32 = 0x000100;
+
+// The number of the layout of what is lent: another one whenever a field of it comes, goes, moves or means something else.
+const LAYOUT: u32 = 1;
+
 // A status as one byte.
 fn status_byte(status: Status) -> u8
     ensures { λ r. ⌜ r ≡ byteOf (statusNumber status) (letter status) ⌝ }
@@ -108,7 +114,7 @@ pub extern "C" fn oskhrein_normal_form(users: u8, roles: u8, words: &[u32], out:
 pub extern "C" fn oskhrein_version() -> u32
     ensures { λ r. ⌜ r ≡ version ⌝ }
 {
-    0x000100
+    VERSION
 }
 
 // The number of the layout of what is lent. Whoever stores a monitor keeps it beside the bytes.
@@ -116,5 +122,5 @@ pub extern "C" fn oskhrein_version() -> u32
 pub extern "C" fn oskhrein_layout() -> u32
     ensures { λ r. ⌜ r ≡ layout ⌝ }
 {
-    1
+    LAYOUT
 }
