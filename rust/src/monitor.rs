@@ -103,7 +103,8 @@ impl Monitor {
         self.raw.closed != 0
     }
 
-    /// The monitor in bytes: C's layout of it, each number low byte first, padding zero.
+    /// The monitor in bytes: C's layout of it, each number low byte first, padding zero. Keep
+    /// [`LAYOUT`] beside them.
     pub fn to_bytes(&self) -> [u8; Self::BYTES] {
         self.raw.to_bytes()
     }

@@ -1,6 +1,5 @@
 //! The exported calls as they are: on a monitor where the caller keeps it, in C's layout, with one
-//! byte an answer. For a program that has no use for this module the crate's root is the better
-//! place.
+//! byte an answer. Most programs want the types at the crate's root instead.
 //!
 //! All that is unsafe in this crate is here. The library asks of its caller (`oskhrein.h`):
 //!
