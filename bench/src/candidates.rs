@@ -2,7 +2,8 @@
 //! run.
 
 use oskhrein::{Refusal, Workspace};
-use reference::monitor;
+use reference::monitor::Kept;
+use reference::multiset;
 use reference::raw::{RawAction, RawInstance};
 use reference::search::Search;
 
@@ -57,11 +58,10 @@ fn opened<T>(answer: Result<T, Refusal>, kept: &mut T) -> u8 {
 fn start(case: &Case) -> Instance {
     let (_, mut raw) =
         RawInstance::open(case.users().into(), case.roles().into(), &case.policy, &case.rows);
-    let policy = raw.check().expect("the case opens");
+    let opened = raw.monitor().expect("the case opens");
     for (place, user) in case.taken.iter().enumerate() {
         let held = reference::policy::ones(case.rows[usize::from(*user)]);
-        let taken = monitor::Taken { user: usize::from(*user), held };
-        raw.actions[place] = RawAction { user: taken.user, met: taken.noted_bits(&policy) };
+        raw.actions[place] = RawAction::taken(opened.policy(), usize::from(*user), &held);
     }
     raw.count = case.taken.len();
     from_raw(&raw)
@@ -77,7 +77,7 @@ fn from_raw(raw: &RawInstance) -> Instance {
         user_roles: raw.user_roles,
         actions: raw.actions.map(|a| Action { user: a.user as u8, met: a.met }),
         taken: raw.count as u8,
-        closed: raw.closed,
+        closed: raw.closed != 0,
     }
 }
 
@@ -91,7 +91,7 @@ fn to_raw(own: &Instance) -> RawInstance {
         user_roles: own.user_roles,
         actions: own.actions.map(|a| RawAction { user: a.user.into(), met: a.met }),
         count: own.taken.into(),
-        closed: own.closed,
+        closed: own.closed.into(),
     }
 }
 
@@ -190,7 +190,7 @@ impl<'a> Searched<'a> {
     /// The multiset test without a workspace.
     fn multiset(&self, users: usize, roles: usize, counts: &[u8; 16]) -> Result<bool, u32> {
         let (policy, rows) = (&self.case.policy, &self.case.rows);
-        let (policy, actions) = monitor::open_multiset(users, roles, policy, rows, counts)?;
+        let (policy, actions) = multiset::open_multiset(users, roles, policy, rows, counts)?;
         Ok(Search::new(&policy).satisfied(&actions))
     }
 }
@@ -209,7 +209,7 @@ impl Candidate for Searched<'_> {
             (Job::Status, true) => self.now.status(workspace).map_or_else(number, letter),
             (Job::Status, false) => self.now.letter().map_or_else(number, letter),
             (Job::Multiset(counts), true) => {
-                let answer = monitor::multiset(users, roles, policy, rows, counts, workspace);
+                let answer = multiset::multiset(users, roles, policy, rows, counts, workspace);
                 answer.map_or_else(number, verdict)
             }
             (Job::Multiset(counts), false) => {

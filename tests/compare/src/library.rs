@@ -49,6 +49,6 @@ pub fn laid_out(raw: &RawInstance) -> Monitor {
         user_roles: raw.user_roles,
         actions: raw.actions.map(|action| Action { user: action.user as u8, met: action.met }),
         taken: raw.count as u8,
-        closed: u8::from(raw.closed),
+        closed: raw.closed,
     }
 }

@@ -1,7 +1,7 @@
 //! Case files and what the judge program prints (01, "Case file and program").
 
 use crate::code::{self, Code};
-use crate::monitor::Instance;
+use crate::monitor::{Monitor, Taken};
 
 /// The most bytes that a case file may have.
 pub const MOST_BYTES: usize = 4096;
@@ -136,16 +136,16 @@ impl Report {
 /// The number of a refused opening.
 pub fn run(case: &Case) -> Result<Report, Code> {
     let (users, roles) = (usize::from(case.users), usize::from(case.roles));
-    let mut instance = Instance::open(users, roles, &case.policy, &case.user_roles)?;
+    let mut monitor: Monitor<Taken> = Monitor::open(users, roles, &case.policy, &case.user_roles)?;
     let mut report = Report { answers: Vec::new(), taken: 0 };
     for word in &case.events {
-        let code = instance.step(*word).code;
+        let code = monitor.step(*word).code;
         if code == code::ACCEPTED && word >> 24 == 1 {
             report.taken += 1;
         }
-        report.answers.push((code, instance.letter()));
+        report.answers.push((code, monitor.letter()));
     }
-    assert_eq!(report.taken, instance.taken().len(), "each action answered 0 is kept");
+    assert_eq!(report.taken, monitor.taken().len(), "each action answered 0 is kept");
     Ok(report)
 }
 

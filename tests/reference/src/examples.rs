@@ -1,7 +1,8 @@
 //! 01's listing L, its twelve settled examples and its four tempting mistakes, as checks.
 
 use crate::casefile::{judge, read_case, run, Case};
-use crate::monitor::{multiset, Instance};
+use crate::monitor::{Monitor, Taken};
+use crate::multiset::multiset;
 use crate::policy::{normal_form, read_policy, Operator, Term};
 use crate::workspace;
 
@@ -154,12 +155,12 @@ fn dead_end_is_taken() -> bool {
     let alone = |user| Term::set(&[user]);
     let with = |user| Term::join(Operator::Together, alone(0), alone(user));
     let term = Term::join(Operator::Both, with(1), with(2));
-    let opened = Instance::open(3, 1, &term.words(), &[1, 1, 1]);
-    let Ok(mut instance) = opened else {
+    let opened = Monitor::<Taken>::open(3, 1, &term.words(), &[1, 1, 1]);
+    let Ok(mut monitor) = opened else {
         return false;
     };
-    let taken = instance.step(action(0)).code == 0 && instance.letter() == 'o';
-    taken && (0..3).all(|user| instance.step(action(user)).code == 9)
+    let taken = monitor.step(action(0)).code == 0 && monitor.letter() == 'o';
+    taken && (0..3).all(|user| monitor.step(action(user)).code == 9)
 }
 
 /// The four mistakes that tempt.

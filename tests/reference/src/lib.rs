@@ -5,7 +5,9 @@
 //!
 //! - [`policy`]: terms, reading policy words, the normal form;
 //! - [`search`]: satisfied and possible, by search on lists;
-//! - [`monitor`]: instances grown by events, the multiset test;
+//! - [`event`]: event words;
+//! - [`monitor`]: a monitor and its rules, for either way to keep an action;
+//! - [`multiset`]: the multiset test;
 //! - [`raw`]: instances given as raw data with noted bits, and number 15;
 //! - [`workspace`]: the words that a workspace must hold;
 //! - [`casefile`]: case files and the judge's output;
@@ -19,10 +21,12 @@
 
 pub mod casefile;
 pub mod code;
+pub mod event;
 pub mod examples;
 pub mod generate;
 pub mod literal;
 pub mod monitor;
+pub mod multiset;
 pub mod policy;
 pub mod raw;
 pub mod search;

@@ -193,6 +193,13 @@ pub fn meets(unit: &Term, user: usize, held: &BTreeSet<usize>) -> bool {
     }
 }
 
+/// Which unit terms of a policy a user who holds these roles meets: bit i for the one at word i.
+pub fn met_bits(policy: &Term, user: usize, held: &BTreeSet<usize>) -> u32 {
+    let terms = policy.prefix_order();
+    let met = |place: &usize| terms[*place].is_unit() && meets(terms[*place], user, held);
+    (0..terms.len()).filter(met).map(|place| 1u32 << place).sum()
+}
+
 /// The numbers of the ones in a mask of 16 bits.
 pub fn ones(mask: u16) -> BTreeSet<usize> {
     (0..16).filter(|place| mask >> place & 1 == 1).collect()

@@ -1,12 +1,22 @@
-//! Instances given as raw data with noted bits: which of them are malformed (01's number 15), and
-//! the events and status that go by the bits as they are (01's table, "the first row that fits
-//! decides").
+//! Instances given as raw data with noted bits, and which of them are malformed (01's number 15).
+//! One that is not is a monitor like any other, and [`Monitor`] has its rules; what an action met
+//! goes by the bits as they are (01's table, "the first row that fits decides").
+
+use std::collections::BTreeSet;
 
 use crate::code::{self, Code};
-use crate::monitor::{read_event, Event, Instance, Outcome, Taken, MOST_ACTIONS};
+use crate::monitor::{Kept, Monitor, Outcome, MOST_ACTIONS};
 use crate::policy::{self, Term, MOST_USERS, MOST_WORDS};
-use crate::search::{Acted, Search};
+use crate::search::Acted;
 use crate::workspace;
+
+/// How many bits the compared program's struct has for the numbers of users, roles and words. Here
+/// every number has room; inputs keep to what can be lent.
+pub const COUNT_BITS: usize = 8;
+/// How many bits it has for the user of an action.
+pub const USER_BITS: usize = 8;
+/// The marks of a closed instance that may be lent to it.
+pub const CLOSED_MARKS: [u8; 1] = [1];
 
 /// A taken action with its noted bits: bit i says whether the user met the unit term at word i.
 #[derive(Clone, Copy, Debug, PartialEq, Eq, Hash)]
@@ -32,6 +42,16 @@ impl Acted for RawAction {
     }
 }
 
+impl Kept for RawAction {
+    fn taken(policy: &Term, user: usize, held: &BTreeSet<usize>) -> RawAction {
+        RawAction { user, met: policy::met_bits(policy, user, held) }
+    }
+
+    fn bits(&self, _policy: &Term) -> u32 {
+        self.met
+    }
+}
+
 /// An instance as raw data; nothing is said about whether any run reaches it.
 #[derive(Clone, Copy, Debug, PartialEq, Eq)]
 pub struct RawInstance {
@@ -49,8 +69,8 @@ pub struct RawInstance {
     pub count: usize,
     /// The taken actions; places past their number are to be zero.
     pub actions: [RawAction; MOST_ACTIONS],
-    /// Whether the instance is closed.
-    pub closed: bool,
+    /// Whether the instance is closed: 0 is open, every other value closed.
+    pub closed: u8,
 }
 
 impl RawInstance {
@@ -63,7 +83,7 @@ impl RawInstance {
         user_roles: [0; MOST_USERS],
         count: 0,
         actions: [RawAction::BLANK; MOST_ACTIONS],
-        closed: false,
+        closed: 0,
     };
 
     /// Opens an instance: 0 and the instance, or the number of the refusal and the blank instance.
@@ -73,31 +93,32 @@ impl RawInstance {
         words: &[u32],
         user_roles: &[u16],
     ) -> (Code, RawInstance) {
-        match Instance::open(users, roles, words, user_roles) {
-            Ok(instance) => (code::ACCEPTED, instance.raw()),
+        match Monitor::<RawAction>::open(users, roles, words, user_roles) {
+            Ok(monitor) => (code::ACCEPTED, monitor.raw()),
             Err(refusal) => (refusal, RawInstance::BLANK),
         }
     }
 
-    /// The policy as a term.
+    /// The monitor that this is, whose rules are then those of every other.
     ///
     /// # Errors
-    /// 15 if the instance is malformed: exactly 01's list.
-    pub fn check(&self) -> Result<Term, Code> {
-        let policy = self.opened().ok_or(code::INSTANCE_MALFORMED)?;
+    /// 15 if it is malformed: exactly 01's list.
+    pub fn monitor(&self) -> Result<Monitor<RawAction>, Code> {
+        let monitor = self.opened().ok_or(code::INSTANCE_MALFORMED)?;
         let well_formed = self.count <= MOST_ACTIONS
             && self.users_are_declared()
-            && self.bits_are_at(policy.unit_mask())
+            && self.bits_are_at(monitor.policy().unit_mask())
             && self.unused_is_zero();
-        well_formed.then_some(policy).ok_or(code::INSTANCE_MALFORMED)
+        well_formed
+            .then(|| monitor.at(self.taken().to_vec(), self.closed != 0))
+            .ok_or(code::INSTANCE_MALFORMED)
     }
 
-    /// The policy, if counts, policy and rows of roles would not be refused.
-    fn opened(&self) -> Option<Term> {
+    /// The monitor as opened, if counts, policy and rows of roles would not be refused.
+    fn opened(&self) -> Option<Monitor<RawAction>> {
         let words = self.policy.get(..self.length)?;
         let user_roles = self.user_roles.get(..self.users)?;
-        let opened = Instance::open(self.users, self.roles, words, user_roles).ok()?;
-        Some(opened.policy().clone())
+        Monitor::open(self.users, self.roles, words, user_roles).ok()
     }
 
     /// The taken actions.
@@ -122,51 +143,22 @@ impl RawInstance {
             && self.user_roles[self.users..].iter().all(|row| *row == 0)
     }
 
-    /// One event, without a workspace: 15, 10, 7, then 8, 9 or 11.
+    /// Keeps what an accepted event left of the monitor; a refused one leaves every byte as it was.
+    fn keep(&mut self, code: Code, monitor: &Monitor<RawAction>) {
+        if code == code::ACCEPTED {
+            *self = monitor.raw();
+        }
+    }
+
+    /// One event, without a workspace: 15, then as [`Monitor::step`].
     pub fn step(&mut self, word: u32) -> Outcome<RawAction> {
-        let policy = match self.check() {
-            Ok(policy) => policy,
+        let mut monitor = match self.monitor() {
+            Ok(monitor) => monitor,
             Err(refusal) => return Outcome::unjudged(refusal),
         };
-        if self.closed {
-            return Outcome::unjudged(code::CLOSED);
-        }
-        match read_event(self.users, self.roles, word) {
-            Err(refusal) => Outcome::unjudged(refusal),
-            Ok(Event::Action { user }) => self.act(&policy, user),
-            Ok(Event::Grant { user, role }) => {
-                self.user_roles[user] |= 1 << role;
-                Outcome::unjudged(code::ACCEPTED)
-            }
-            Ok(Event::Revoke { user, role }) => {
-                self.user_roles[user] &= !(1 << role);
-                Outcome::unjudged(code::ACCEPTED)
-            }
-            Ok(Event::Close) => self.close(&policy),
-        }
-    }
-
-    /// A declared user acts; what is noted goes by the roles held now.
-    fn act(&mut self, policy: &Term, user: usize) -> Outcome<RawAction> {
-        if self.count == MOST_ACTIONS {
-            return Outcome::unjudged(code::TOO_MANY_ACTIONS);
-        }
-        let action = Taken { user, held: policy::ones(self.user_roles[user]) };
-        let action = RawAction { user, met: action.noted_bits(policy) };
-        let tried = [self.taken(), &[action]].concat();
-        if !Search::new(policy).possible(&tried) {
-            return Outcome::judged(code::NOT_POSSIBLE, tried);
-        }
-        self.actions[self.count] = action;
-        self.count += 1;
-        Outcome::judged(code::ACCEPTED, tried)
-    }
-
-    /// A close: accepted when all taken actions satisfy the policy.
-    fn close(&mut self, policy: &Term) -> Outcome<RawAction> {
-        self.closed = Search::new(policy).satisfied(self.taken());
-        let code = if self.closed { code::ACCEPTED } else { code::NOT_SATISFIED };
-        Outcome::judged(code, self.taken().to_vec())
+        let outcome = monitor.step(word);
+        self.keep(outcome.code, &monitor);
+        outcome
     }
 
     /// The status without a workspace.
@@ -174,24 +166,27 @@ impl RawInstance {
     /// # Errors
     /// 15 if the instance is malformed.
     pub fn letter(&self) -> Result<char, Code> {
-        let policy = self.check()?;
-        if self.closed {
-            return Ok('d');
-        }
-        let satisfied = Search::new(&policy).satisfied(self.taken());
-        Ok(if satisfied { 'c' } else { 'o' })
+        Ok(self.monitor()?.letter())
     }
 
-    /// One event with its workspace: 12 first, then as [`RawInstance::step`].
+    /// The monitor for a call that is lent a workspace.
+    ///
+    /// # Errors
+    /// 12, then 15.
+    fn admitted(&self, workspace: &[u32]) -> Result<Monitor<RawAction>, Code> {
+        workspace::check(workspace)?;
+        self.monitor()
+    }
+
+    /// One event with its workspace: 12, 15, then as [`Monitor::step`].
     pub fn event(&mut self, word: u32, workspace: &mut [u32]) -> Code {
-        if workspace.len() < workspace::WORDS {
-            return code::WORKSPACE_SHORT;
-        }
-        let outcome = self.step(word);
-        if let (Some(actions), Ok(policy)) = (outcome.judged, self.check()) {
-            workspace::fill(&mut Search::new(&policy), &actions, workspace);
-        }
-        outcome.code
+        let mut monitor = match self.admitted(workspace) {
+            Ok(monitor) => monitor,
+            Err(refusal) => return refusal,
+        };
+        let code = monitor.event(word, workspace);
+        self.keep(code, &monitor);
+        code
     }
 
     /// The status with its workspace, which then speaks of the taken actions.
@@ -199,12 +194,7 @@ impl RawInstance {
     /// # Errors
     /// 12, then 15.
     pub fn status(&self, workspace: &mut [u32]) -> Result<char, Code> {
-        if workspace.len() < workspace::WORDS {
-            return Err(code::WORKSPACE_SHORT);
-        }
-        let policy = self.check()?;
-        workspace::fill(&mut Search::new(&policy), self.taken(), workspace);
-        self.letter()
+        self.admitted(workspace)?.status(workspace)
     }
 }
 
@@ -220,7 +210,7 @@ mod tests {
         let mut random = Random::new(15);
         for _ in 0..50 {
             for (name, raw) in instances::malformed(&mut random) {
-                assert_eq!(raw.check(), Err(15), "{name}: {raw:?}");
+                assert_eq!(raw.monitor().err(), Some(15), "{name}: {raw:?}");
                 let mut after = raw;
                 let mut workspace = vec![6; WORDS];
                 for word in [action(0), CLOSE, 0] {
@@ -237,11 +227,11 @@ mod tests {
     fn odd_instances_are_well_formed() {
         let mut random = Random::new(16);
         for (name, raw) in instances::odd_but_well_formed(&mut random) {
-            assert!(raw.check().is_ok(), "{name}");
+            assert!(raw.monitor().is_ok(), "{name}");
         }
         for _ in 0..500 {
             let raw = instances::well_formed(&mut random, 31, 12);
-            assert!(raw.check().is_ok(), "{raw:?}");
+            assert!(raw.monitor().is_ok(), "{raw:?}");
         }
     }
 
@@ -279,8 +269,12 @@ mod tests {
     #[test]
     fn a_closed_instance_that_does_not_satisfy_is_closed() {
         let (_, mut raw) = RawInstance::open(1, 1, &[0x01000000], &[1]);
-        raw.closed = true;
-        assert_eq!(raw.letter(), Ok('d'));
-        assert_eq!(raw.step(action(0)).code, 10);
+        for mark in 1..=u8::MAX {
+            raw.closed = mark;
+            let before = raw;
+            assert_eq!(raw.letter(), Ok('d'));
+            assert_eq!(raw.step(action(0)).code, 10);
+            assert_eq!(raw, before);
+        }
     }
 }

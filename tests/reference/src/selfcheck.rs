@@ -3,11 +3,13 @@
 use std::collections::{BTreeMap, BTreeSet};
 
 use crate::code::{self, Code};
+use crate::event::Event;
 use crate::examples;
 use crate::generate::terms::{self, Style};
 use crate::generate::{cases, Random};
 use crate::literal::{self, Assignment, Process, Reading};
-use crate::monitor::{self, Instance, Taken};
+use crate::monitor::{Kept, Monitor, Taken};
+use crate::multiset::{multiset, open_multiset};
 use crate::policy::{self, Term};
 use crate::search::{Question, Search};
 use crate::workspace;
@@ -49,7 +51,7 @@ struct Small {
     roles: usize,
     term: Term,
     user_roles: Vec<u16>,
-    events: Vec<monitor::Event>,
+    events: Vec<Event>,
 }
 
 impl Small {
@@ -70,9 +72,9 @@ impl Small {
             .collect()
     }
 
-    /// The instance, opened.
-    fn open(&self) -> Instance {
-        Instance::open(self.users, self.roles, &self.term.words(), &self.user_roles)
+    /// The monitor, opened.
+    fn open(&self) -> Monitor<Taken> {
+        Monitor::open(self.users, self.roles, &self.term.words(), &self.user_roles)
             .expect("a small case opens")
     }
 
@@ -84,7 +86,7 @@ impl Small {
 
     /// The events as a trace; events that differ only in their action are told apart.
     fn trace(&self) -> Vec<literal::Event> {
-        let event = |(place, event): (usize, &monitor::Event)| as_literal(*event, place as u8 % 2);
+        let event = |(place, event): (usize, &Event)| as_literal(*event, place as u8 % 2);
         self.events.iter().enumerate().map(event).collect()
     }
 }
@@ -102,32 +104,32 @@ fn small_term(random: &mut Random, style: Style) -> Term {
 }
 
 /// A random action, grant or revocation.
-fn small_event(random: &mut Random, users: usize, roles: usize) -> monitor::Event {
+fn small_event(random: &mut Random, users: usize, roles: usize) -> Event {
     let (user, role) = (random.below(users), random.below(roles));
     match random.below(10) {
-        0..=6 => monitor::Event::Action { user },
-        7 | 8 => monitor::Event::Grant { user, role },
-        _ => monitor::Event::Revoke { user, role },
+        0..=6 => Event::Action { user },
+        7 | 8 => Event::Grant { user, role },
+        _ => Event::Revoke { user, role },
     }
 }
 
 /// The event of the literal definitions.
-fn as_literal(event: monitor::Event, action: u8) -> literal::Event {
+fn as_literal(event: Event, action: u8) -> literal::Event {
     match event {
-        monitor::Event::Action { user } => literal::Event::Business { user, action },
-        monitor::Event::Grant { user, role } => literal::Event::Add { user, role },
-        monitor::Event::Revoke { user, role } => literal::Event::Remove { user, role },
-        monitor::Event::Close => literal::Event::Done,
+        Event::Action { user } => literal::Event::Business { user, action },
+        Event::Grant { user, role } => literal::Event::Add { user, role },
+        Event::Revoke { user, role } => literal::Event::Remove { user, role },
+        Event::Close => literal::Event::Done,
     }
 }
 
 /// The event word.
-fn as_word(event: monitor::Event) -> u32 {
+fn as_word(event: Event) -> u32 {
     match event {
-        monitor::Event::Action { user } => examples::action(user as u32),
-        monitor::Event::Grant { user, role } => examples::grant(user as u32, role as u32),
-        monitor::Event::Revoke { user, role } => examples::revoke(user as u32, role as u32),
-        monitor::Event::Close => examples::CLOSE,
+        Event::Action { user } => examples::action(user as u32),
+        Event::Grant { user, role } => examples::grant(user as u32, role as u32),
+        Event::Revoke { user, role } => examples::revoke(user as u32, role as u32),
+        Event::Close => examples::CLOSE,
     }
 }
 
@@ -151,12 +153,12 @@ pub fn selfcheck(seed: u64, count: usize) -> Tally {
 
 /// The monitor against Definitions 6 and 7, event by event: a refused action is not in the trace.
 fn check_run(tally: &mut Tally, small: &Small) {
-    let mut instance = small.open();
-    let mut raw = instance.raw();
+    let mut monitor = small.open();
+    let mut raw = monitor.raw();
     let mut states = BTreeSet::from([small.process(Reading::UnitFirst)]);
     let mut trace: Vec<literal::Event> = Vec::new();
     for (event, label) in small.events.iter().zip(small.trace()) {
-        let code = instance.step(as_word(*event)).code;
+        let code = monitor.step(as_word(*event)).code;
         let reached: BTreeSet<Process> =
             states.iter().flat_map(|state| literal::next(state, label)).collect();
         let expected = if reached.is_empty() { code::NOT_POSSIBLE } else { code::ACCEPTED };
@@ -169,27 +171,23 @@ fn check_run(tally: &mut Tally, small: &Small) {
             tally.cover("actions taken", "actions refused", code == code::ACCEPTED);
         }
         let by_bits = raw.step(as_word(*event)).code;
-        tally.check(
-            "the bits and the roles agree",
-            by_bits == code && raw == instance.raw(),
-            small,
-        );
-        check_letter(tally, small, &mut instance, &trace);
+        tally.check("the bits and the roles agree", by_bits == code && raw == monitor.raw(), small);
+        check_letter(tally, small, &mut monitor, &trace);
     }
-    check_close(tally, small, &mut instance, &states, &trace);
+    check_close(tally, small, &mut monitor, &states, &trace);
 }
 
 /// The status against Definition 6.
 fn check_letter(
     tally: &mut Tally,
     small: &Small,
-    instance: &mut Instance,
+    monitor: &mut Monitor<Taken>,
     trace: &[literal::Event],
 ) {
     let satisfied = literal::trace_satisfies(trace, small.users, &small.assignment(), &small.term);
     let letter = if satisfied { 'c' } else { 'o' };
-    tally.check("the status follows Definition 6", instance.letter() == letter, small);
-    let by_bits = instance.raw().letter();
+    tally.check("the status follows Definition 6", monitor.letter() == letter, small);
+    let by_bits = monitor.raw().letter();
     tally.check("the status by bits follows Definition 6", by_bits == Ok(letter), small);
 }
 
@@ -197,7 +195,7 @@ fn check_letter(
 fn check_close(
     tally: &mut Tally,
     small: &Small,
-    instance: &mut Instance,
+    monitor: &mut Monitor<Taken>,
     states: &BTreeSet<Process>,
     trace: &[literal::Event],
 ) {
@@ -205,11 +203,11 @@ fn check_close(
     let satisfied = literal::trace_satisfies(trace, small.users, &small.assignment(), &small.term);
     tally.check("done is accepted when the trace satisfies", done == satisfied, small);
     let expected: Code = if done { code::ACCEPTED } else { code::NOT_SATISFIED };
-    let code = instance.step(examples::CLOSE).code;
+    let code = monitor.step(examples::CLOSE).code;
     tally.check("a close follows Definition 7", code == expected, small);
     tally.cover("closes taken", "closes refused", done);
     let letter = if done { 'd' } else { 'o' };
-    tally.check("the status after a close", instance.letter() == letter, small);
+    tally.check("the status after a close", monitor.letter() == letter, small);
 }
 
 /// The actions of a whole trace, each with the roles held at the time, none refused.
@@ -219,16 +217,16 @@ fn actions_of(small: &Small) -> Vec<Taken> {
     let mut actions = Vec::new();
     for event in &small.events {
         match *event {
-            monitor::Event::Action { user } => {
+            Event::Action { user } => {
                 actions.push(Taken { user, held: held[user].clone() });
             }
-            monitor::Event::Grant { user, role } => {
+            Event::Grant { user, role } => {
                 held[user].insert(role);
             }
-            monitor::Event::Revoke { user, role } => {
+            Event::Revoke { user, role } => {
                 held[user].remove(&role);
             }
-            monitor::Event::Close => {}
+            Event::Close => {}
         }
     }
     actions
@@ -273,15 +271,13 @@ fn check_multiset(tally: &mut Tally, small: &Small, random: &mut Random) {
     tally.cover("multisets yes", "multisets no", expected);
     let mut lent = vec![7; workspace::WORDS];
     let words = small.term.words();
-    let answer =
-        monitor::multiset(small.users, small.roles, &words, &small.user_roles, &counts, &mut lent);
+    let answer = multiset(small.users, small.roles, &words, &small.user_roles, &counts, &mut lent);
     tally.check("the multiset test is Definition 3", answer == Ok(expected), &(small, counts));
     let by_trace = literal::trace_satisfies(&trace, small.users, &assignment, &small.term);
     tally.check("Definitions 3 and 6 agree", by_trace == expected, &(small, &trace));
-    let actions =
-        monitor::open_multiset(small.users, small.roles, &words, &small.user_roles, &counts)
-            .map(|(_, actions)| actions)
-            .unwrap_or_default();
+    let actions = open_multiset(small.users, small.roles, &words, &small.user_roles, &counts)
+        .map(|(_, actions)| actions)
+        .unwrap_or_default();
     let fits = workspace::fits_some_numbering(&small.term, &actions, &lent);
     tally.check("the workspace of a multiset fits", fits, &(small, counts));
 }
@@ -298,10 +294,10 @@ fn check_equal_form(tally: &mut Tally, small: &Small, random: &mut Random) {
     tally.check("equal forms, one normal form", normal == equal.normal(), &(small, &equal));
     tally.check("normal twice is normal once", normal == normal.normal(), small);
     let answers = |term: &Term| {
-        let mut instance = Small { term: term.clone(), ..small.clone() }.open();
-        let word_answers = small.events.iter().chain(&[monitor::Event::Close]).map(|event| {
-            let code = instance.step(as_word(*event)).code;
-            (code, instance.letter())
+        let mut monitor = Small { term: term.clone(), ..small.clone() }.open();
+        let word_answers = small.events.iter().chain(&[Event::Close]).map(|event| {
+            let code = monitor.step(as_word(*event)).code;
+            (code, monitor.letter())
         });
         word_answers.collect::<Vec<_>>()
     };
@@ -337,8 +333,7 @@ fn check_workspace(tally: &mut Tally, small: &Small) {
 
 /// The same actions with noted bits.
 fn noted(term: &Term, actions: &[Taken]) -> Vec<crate::raw::RawAction> {
-    let note =
-        |action: &Taken| crate::raw::RawAction { user: action.user, met: action.noted_bits(term) };
+    let note = |action: &Taken| crate::raw::RawAction { user: action.user, met: action.bits(term) };
     actions.iter().map(note).collect()
 }
 

@@ -1,5 +1,6 @@
 //! What the workspace holds (01, "The work room").
 
+use crate::code::{self, Code};
 use crate::policy::Term;
 use crate::search::{Acted, Question, Search};
 
@@ -7,6 +8,14 @@ use crate::search::{Acted, Question, Search};
 pub const WORDS: usize = 8192;
 /// Where the facts about "possible" begin.
 pub const POSSIBLE: usize = 4096;
+
+/// What every call that is lent a workspace looks at first.
+///
+/// # Errors
+/// 12 if it has fewer than 8,192 words.
+pub fn check(workspace: &[u32]) -> Result<(), Code> {
+    (workspace.len() >= WORDS).then_some(()).ok_or(code::WORKSPACE_SHORT)
+}
 
 /// The 8,192 words for these actions: bit i of word s says whether the set with mask s satisfies
 /// the term at word i, and bit i of word 4,096 + s the same for possible; all else is zero.

@@ -6,8 +6,8 @@ use oskhrein::raw::{Calls, Monitor};
 use reference::casefile::{read_case, Case};
 use reference::generate::calls::{event_edges, event_input, EventInput};
 use reference::generate::{cases, Random};
-use reference::monitor::Instance as Grown;
-use reference::raw::RawInstance;
+use reference::monitor::{Monitor as Grown, Taken};
+use reference::raw::{RawInstance, CLOSED_MARKS, COUNT_BITS, USER_BITS};
 use reference::workspace::WORDS;
 
 use super::{byte, Call};
@@ -81,17 +81,18 @@ pub fn compare(library: &Calls, seed: u64, count: usize) -> [Call; 2] {
 /// The instance with one bit of one field flipped.
 fn flipped(random: &mut Random, instance: RawInstance) -> RawInstance {
     let mut raw = instance;
-    let byte = 1 << random.below(8);
+    let count = 1 << random.below(COUNT_BITS);
     match random.below(9) {
-        0 => raw.users ^= byte,
-        1 => raw.roles ^= byte,
-        2 => raw.length ^= byte,
-        3 => raw.count ^= byte,
+        0 => raw.users ^= count,
+        1 => raw.roles ^= count,
+        2 => raw.length ^= count,
+        3 => raw.count ^= 1 << random.below(8),
         4 => raw.policy[random.below(31)] ^= 1 << random.below(32),
         5 => raw.user_roles[random.below(16)] ^= 1 << random.below(16),
-        6 => raw.actions[random.below(12)].user ^= byte,
+        6 => raw.actions[random.below(12)].user ^= 1 << random.below(USER_BITS),
         7 => raw.actions[random.below(12)].met ^= 1 << random.below(32),
-        _ => raw.closed = !raw.closed,
+        _ if raw.closed == 0 => raw.closed = random.pick(&CLOSED_MARKS),
+        _ => raw.closed = 0,
     }
     raw
 }
@@ -149,7 +150,7 @@ impl Events<'_> {
     fn run(&mut self, label: &str, case: &Case) {
         let Case { users, roles, policy, user_roles, events } = case;
         let (users, roles) = (*users, *roles);
-        let opened = Grown::open(users.into(), roles.into(), policy, user_roles);
+        let opened = Grown::<Taken>::open(users.into(), roles.into(), policy, user_roles);
         let Ok(mut grown) = opened else {
             return;
         };

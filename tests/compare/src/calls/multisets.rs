@@ -4,7 +4,8 @@
 use oskhrein::raw::Calls;
 use reference::generate::calls::{multiset_edges, multiset_input, MultisetInput};
 use reference::generate::Random;
-use reference::monitor::{multiset, open_multiset, Taken};
+use reference::monitor::Taken;
+use reference::multiset::{multiset, open_multiset};
 use reference::policy::Term;
 use reference::workspace::{fits_some_numbering, POSSIBLE, WORDS};
 

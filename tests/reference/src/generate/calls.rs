@@ -203,7 +203,7 @@ fn full_instances(random: &mut Random) -> Vec<(String, EventInput)> {
     let policy = Term::plus(terms::unit(random, style, 3));
     let mut found = Vec::new();
     for count in [11, 12] {
-        for closed in [false, true] {
+        for closed in [0, 1] {
             let mut instance = instances::with_policy(random, style, &policy, 0);
             instance.user_roles[..2].copy_from_slice(&user_roles(random, 2, 2));
             instance.count = count;

@@ -4,7 +4,7 @@ use super::cases::user_roles;
 use super::terms::{self, Style};
 use super::Random;
 use crate::policy::{Operator, Term};
-use crate::raw::{RawAction, RawInstance};
+use crate::raw::{RawAction, RawInstance, CLOSED_MARKS, COUNT_BITS, USER_BITS};
 
 /// A raw instance with a name that says what is odd about it.
 pub type NamedInstance = (String, RawInstance);
@@ -30,7 +30,7 @@ pub fn with_policy(
         let bits = if thin { random.word() } else { random.word() | random.word() };
         *action = RawAction { user: random.below(style.users), met: bits & mask };
     }
-    raw.closed = random.percent(15);
+    raw.closed = if random.percent(15) { random.pick(&CLOSED_MARKS) } else { 0 };
     raw
 }
 
@@ -77,8 +77,13 @@ fn malformed_counts(random: &mut Random) -> Vec<NamedInstance> {
     for length in [0, 32, 255] {
         found.push(with(random, &format!("{length} policy words"), |raw| raw.length = length));
     }
+    for bit in 8..COUNT_BITS {
+        found.push(with(random, &format!("bit {bit} of users"), |raw| raw.users |= 1 << bit));
+        found.push(with(random, &format!("bit {bit} of roles"), |raw| raw.roles |= 1 << bit));
+        found.push(with(random, &format!("bit {bit} of words"), |raw| raw.length |= 1 << bit));
+    }
     found.push(("blank".to_string(), RawInstance::BLANK));
-    found.push(("blank, closed".to_string(), RawInstance { closed: true, ..RawInstance::BLANK }));
+    found.push(("blank, closed".to_string(), RawInstance { closed: 1, ..RawInstance::BLANK }));
     found
 }
 
@@ -126,6 +131,13 @@ fn malformed_terms(random: &mut Random) -> Vec<NamedInstance> {
     ]
 }
 
+/// Users of actions whose low byte is declared.
+fn far_users(random: &mut Random) -> Vec<NamedInstance> {
+    let far = |bit: usize| format!("bit {bit} of the user of an action");
+    let bits = 8..USER_BITS;
+    bits.map(|bit| with(random, &far(bit), |raw| raw.actions[0].user |= 1 << bit)).collect()
+}
+
 /// Malformed rows of roles, numbers of actions, users and noted bits.
 fn malformed_actions(random: &mut Random) -> Vec<NamedInstance> {
     vec![
@@ -166,8 +178,14 @@ fn malformed_rest(random: &mut Random) -> Vec<NamedInstance> {
 /// Raw instances for each way of being malformed, each with its name; some are closed, since 15
 /// comes before 10.
 pub fn malformed(random: &mut Random) -> Vec<NamedInstance> {
-    let kinds =
-        [malformed_counts, malformed_words, malformed_terms, malformed_actions, malformed_rest];
+    let kinds = [
+        malformed_counts,
+        malformed_words,
+        malformed_terms,
+        far_users,
+        malformed_actions,
+        malformed_rest,
+    ];
     kinds.into_iter().flat_map(|kind| kind(random)).collect()
 }
 
@@ -176,12 +194,12 @@ pub fn odd_but_well_formed(random: &mut Random) -> Vec<NamedInstance> {
     let style = Style { users: 3, roles: 2, lean: 60 };
     let unit = Term::join(Operator::Either, Term::Role(0), Term::Role(1));
     let base = |random: &mut Random, policy: &Term| RawInstance {
-        closed: false,
+        closed: 0,
         count: 0,
         ..with_policy(random, style, policy, 0)
     };
     let mut closed = base(random, &unit);
-    closed.closed = true;
+    closed.closed = 1;
     let mut impossible = base(random, &unit);
     impossible.count = 12;
     let mut contradicted = base(random, &unit);
