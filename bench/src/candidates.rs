@@ -1,31 +1,42 @@
 //! The programs that are compared. Each keeps its input in its own form and does one whole job a
 //! run.
 
-use oskhrein::{Refusal, Workspace};
+use oskhrein::Refusal;
 use reference::monitor::Kept;
 use reference::multiset;
 use reference::raw::{RawAction, RawInstance};
 use reference::search::Search;
 
 use crate::cases::{Case, Job};
-use crate::tuned::{self, Action, Fill, Instance};
+use crate::library::{Library, Stored};
+use crate::tuned::{self, Action, Configuration, Fill, Instance, Monitor};
 
 /// A program with the input of one case.
 pub trait Candidate {
     /// Does the job once, from the same start each time, and answers its byte.
     fn run(&mut self) -> u8;
 
-    /// The instance that the last run left, field by field as the hand-tuned program keeps it.
-    fn instance(&self) -> Instance;
+    /// The monitor that the last run left, field by field as the hand-tuned program keeps it.
+    fn monitor(&self) -> Monitor;
 
     /// The workspace or output that the last run left, if the program fills it.
     fn words(&self) -> Option<&[u32]>;
 }
 
+/// A workspace. All begin at a page, since where they begin is not what is compared.
+#[repr(C, align(4096))]
+struct Workspace([u32; tuned::WORDS]);
+
+impl Workspace {
+    fn new() -> Box<Workspace> {
+        Box::new(Workspace([0; tuned::WORDS]))
+    }
+}
+
 /// How many words of a workspace or output a job leaves.
-fn words_left(job: Job, policy: &[u32]) -> usize {
-    match job {
-        Job::NormalForm => policy.len(),
+fn words_left(case: &Case) -> usize {
+    match case.job {
+        Job::NormalForm => case.policy.words.len(),
         Job::Open => 0,
         _ => tuned::WORDS,
     }
@@ -45,129 +56,77 @@ fn verdict(yes: bool) -> u8 {
     }
 }
 
-/// The byte of an opening, which is kept.
-fn opened<T>(answer: Result<T, Refusal>, kept: &mut T) -> u8 {
-    byte(answer, |instance| {
-        *kept = instance;
-        0
-    })
-}
-
-/// The instance of a case, made from an opening by noting the actions taken; no event judges them,
+/// The start of a case, made from an opening by noting the actions taken; no event judges them,
 /// since a short policy would not take so many.
-fn start(case: &Case) -> Instance {
-    let (_, mut raw) =
-        RawInstance::open(case.users().into(), case.roles().into(), &case.policy, &case.rows);
+fn start(case: &Case) -> RawInstance {
+    let (users, roles) = (case.users().into(), case.roles().into());
+    let (_, mut raw) = RawInstance::open(users, roles, &case.policy.words, &case.policy.rows);
     let opened = raw.monitor().expect("the case opens");
-    for (place, user) in case.taken.iter().enumerate() {
-        let held = reference::policy::ones(case.rows[usize::from(*user)]);
-        raw.actions[place] = RawAction::taken(opened.policy(), usize::from(*user), &held);
+    for (place, user) in case.taken.iter().map(|user| usize::from(*user)).enumerate() {
+        let held = reference::policy::ones(case.policy.rows[user]);
+        raw.actions[place] = RawAction::taken(opened.policy(), user, &held);
     }
     raw.count = case.taken.len();
-    from_raw(&raw)
+    raw
 }
 
 /// An instance of the reference program as the hand-tuned program keeps it.
-fn from_raw(raw: &RawInstance) -> Instance {
-    Instance {
-        policy: raw.policy,
-        words: raw.length as u8,
-        users: raw.users as u8,
-        roles: raw.roles as u8,
-        user_roles: raw.user_roles,
-        actions: raw.actions.map(|a| Action { user: a.user as u8, met: a.met }),
-        taken: raw.count as u8,
-        closed: raw.closed != 0,
+fn from_raw(raw: &RawInstance) -> Monitor {
+    let (users, roles) = (raw.users as u16, raw.roles as u16);
+    Monitor {
+        configuration: Configuration { user_roles: raw.user_roles, users, roles },
+        instance: Instance {
+            policy: raw.policy,
+            actions: raw.actions.map(|a| Action { user: a.user as u32, met: a.met }),
+            words: raw.length as u16,
+            taken: raw.count as u8,
+            closed: raw.closed,
+        },
     }
 }
 
-/// The other way.
-fn to_raw(own: &Instance) -> RawInstance {
-    RawInstance {
-        policy: own.policy,
-        length: own.words.into(),
-        users: own.users.into(),
-        roles: own.roles.into(),
-        user_roles: own.user_roles,
-        actions: own.actions.map(|a| RawAction { user: a.user.into(), met: a.met }),
-        count: own.taken.into(),
-        closed: own.closed.into(),
-    }
-}
-
-/// An instance as the library stores it.
-fn to_bytes(own: &Instance) -> [u8; oskhrein::Monitor::BYTES] {
-    let mut bytes = Vec::new();
-    own.policy.iter().for_each(|word| bytes.extend(word.to_le_bytes()));
-    bytes.extend([own.words, own.users, own.roles, 0]);
-    own.user_roles.iter().for_each(|row| bytes.extend(row.to_le_bytes()));
-    for action in own.actions {
-        bytes.extend([action.user, 0, 0, 0]);
-        bytes.extend(action.met.to_le_bytes());
-    }
-    bytes.extend([own.taken, u8::from(own.closed), 0, 0]);
-    bytes.try_into().expect("C's layout has as many bytes")
-}
-
-/// (a) The proved library.
+/// (a) The proved library; or an earlier build of it.
 pub struct Proved<'a> {
     case: &'a Case,
-    start: oskhrein::Monitor,
-    now: oskhrein::Monitor,
-    workspace: Workspace,
-    out: [u32; oskhrein::MAX_WORDS],
+    library: &'a Library,
+    start: Stored,
+    now: Stored,
+    workspace: Box<Workspace>,
 }
 
 impl<'a> Proved<'a> {
     /// With the input of a case.
-    pub fn new(case: &'a Case) -> Proved<'a> {
-        let bytes = to_bytes(&start(case));
-        let start = oskhrein::Monitor::from_bytes(&bytes).expect("the mark is 0 or 1");
-        let now = start.clone();
-        Proved { case, start, now, workspace: Workspace::new(), out: [0; oskhrein::MAX_WORDS] }
+    pub fn new(case: &'a Case, library: &'a Library) -> Proved<'a> {
+        let start = library.stored(&from_raw(&start(case)));
+        Proved { case, library, start, now: start, workspace: Workspace::new() }
     }
 }
 
 impl Candidate for Proved<'_> {
     fn run(&mut self) -> u8 {
-        let Proved { case, start, now, workspace, out } = self;
+        let Proved { case, library, start, now, workspace } = self;
         let (users, roles) = (case.users(), case.roles());
-        let (policy, rows) = (&case.policy[..], &case.rows[..]);
+        let (policy, rows) = (&case.policy.words[..], &case.policy.rows[..]);
+        let workspace = &mut workspace.0[..];
+        let calls = library.calls();
         match &case.job {
             Job::Event(word) => {
                 now.clone_from(start);
-                byte(now.event_word(*word, workspace), |()| 0)
+                library.event(now, *word, workspace)
             }
-            Job::Status => byte(start.status(workspace), |status| status.letter() as u8),
-            Job::Multiset(counts) => {
-                let answer = oskhrein::satisfies(users, roles, policy, rows, counts, workspace);
-                byte(answer, verdict)
-            }
-            Job::NormalForm => byte(oskhrein::normal_form(users, roles, policy, out), |_| 0),
-            Job::Open => opened(oskhrein::Monitor::open(users, roles, policy, rows), now),
+            Job::Status => library.status(now, workspace),
+            Job::Multiset(counts) => calls.satisfies(users, roles, policy, rows, counts, workspace),
+            Job::NormalForm => calls.normal_form(users, roles, policy, workspace),
+            Job::Open => library.open(now, users, roles, policy, rows),
         }
     }
 
-    fn instance(&self) -> Instance {
-        let mut raw = Instance::default();
-        let now = &self.now;
-        raw.policy[..now.policy().len()].copy_from_slice(now.policy());
-        raw.user_roles[..now.user_roles().len()].copy_from_slice(now.user_roles());
-        for (place, action) in raw.actions.iter_mut().zip(now.actions()) {
-            *place = Action { user: action.user, met: action.met };
-        }
-        raw.words = now.policy().len() as u8;
-        (raw.users, raw.roles) = (now.users() as u8, now.roles() as u8);
-        (raw.taken, raw.closed) = (now.actions().len() as u8, now.is_closed());
-        raw
+    fn monitor(&self) -> Monitor {
+        self.library.monitor(&self.now)
     }
 
     fn words(&self) -> Option<&[u32]> {
-        let left = words_left(self.case.job, &self.case.policy);
-        Some(match self.case.job {
-            Job::NormalForm => &self.out[..left],
-            _ => &self.workspace.words()[..left],
-        })
+        Some(&self.workspace.0[..words_left(self.case)])
     }
 }
 
@@ -176,20 +135,20 @@ pub struct Searched<'a> {
     case: &'a Case,
     start: RawInstance,
     now: RawInstance,
-    workspace: Vec<u32>,
+    workspace: Box<Workspace>,
     fills: bool,
 }
 
 impl<'a> Searched<'a> {
     /// With the input of a case.
     pub fn new(case: &'a Case, fills: bool) -> Searched<'a> {
-        let start = to_raw(&start(case));
-        Searched { case, start, now: start, workspace: vec![0; tuned::WORDS], fills }
+        let start = start(case);
+        Searched { case, start, now: start, workspace: Workspace::new(), fills }
     }
 
     /// The multiset test without a workspace.
     fn multiset(&self, users: usize, roles: usize, counts: &[u8; 16]) -> Result<bool, u32> {
-        let (policy, rows) = (&self.case.policy, &self.case.rows);
+        let (policy, rows) = (&self.case.policy.words, &self.case.policy.rows);
         let (policy, actions) = multiset::open_multiset(users, roles, policy, rows, counts)?;
         Ok(Search::new(&policy).satisfied(&actions))
     }
@@ -198,8 +157,8 @@ impl<'a> Searched<'a> {
 impl Candidate for Searched<'_> {
     fn run(&mut self) -> u8 {
         let (users, roles) = (self.case.users().into(), self.case.roles().into());
-        let (policy, rows) = (&self.case.policy[..], &self.case.rows[..]);
-        let workspace = &mut self.workspace;
+        let (policy, rows) = (&self.case.policy.words[..], &self.case.policy.rows[..]);
+        let workspace = &mut self.workspace.0[..];
         self.now = self.start;
         let number = |code: u32| code as u8;
         let letter = |letter: char| letter as u8;
@@ -226,31 +185,30 @@ impl Candidate for Searched<'_> {
         }
     }
 
-    fn instance(&self) -> Instance {
+    fn monitor(&self) -> Monitor {
         from_raw(&self.now)
     }
 
     fn words(&self) -> Option<&[u32]> {
-        let left = words_left(self.case.job, &self.case.policy);
         let filled = self.fills || matches!(self.case.job, Job::NormalForm | Job::Open);
-        filled.then_some(&self.workspace[..left])
+        filled.then_some(&self.workspace.0[..words_left(self.case)])
     }
 }
 
 /// (c) and (d): the hand-tuned program, with either way to fill the workspace.
 pub struct Tuned<'a> {
     case: &'a Case,
-    start: Instance,
-    now: Instance,
-    workspace: Vec<u32>,
+    start: Monitor,
+    now: Monitor,
+    workspace: Box<Workspace>,
     fill: Fill,
 }
 
 impl<'a> Tuned<'a> {
     /// With the input of a case.
     pub fn new(case: &'a Case, fill: Fill) -> Tuned<'a> {
-        let start = start(case);
-        Tuned { case, start, now: start, workspace: vec![0; tuned::WORDS], fill }
+        let start = from_raw(&start(case));
+        Tuned { case, start, now: start, workspace: Workspace::new(), fill }
     }
 }
 
@@ -258,13 +216,14 @@ impl Candidate for Tuned<'_> {
     fn run(&mut self) -> u8 {
         let Tuned { case, start, now, workspace, fill } = self;
         let (users, roles) = (case.users(), case.roles());
-        let (policy, rows) = (&case.policy[..], &case.rows[..]);
+        let (policy, rows) = (&case.policy.words[..], &case.policy.rows[..]);
+        let workspace = &mut workspace.0[..];
         match &case.job {
             Job::Event(word) => {
                 now.clone_from(start);
                 byte(now.event(*word, workspace, *fill), |()| 0)
             }
-            Job::Status => byte(start.status(workspace, *fill), |status| status.letter() as u8),
+            Job::Status => byte(now.status(workspace, *fill), |status| status.letter() as u8),
             Job::Multiset(counts) => {
                 let declared = (users, roles);
                 let answer = tuned::satisfies(declared, policy, rows, counts, workspace, *fill);
@@ -273,15 +232,91 @@ impl Candidate for Tuned<'_> {
             Job::NormalForm => {
                 byte(tuned::normal::normal_form(users, roles, policy, workspace), |()| 0)
             }
-            Job::Open => opened(tuned::open(users, roles, policy, rows), now),
+            Job::Open => byte(now.open(users, roles, policy, rows), |()| 0),
         }
     }
 
-    fn instance(&self) -> Instance {
+    fn monitor(&self) -> Monitor {
         self.now
     }
 
     fn words(&self) -> Option<&[u32]> {
-        Some(&self.workspace[..words_left(self.case.job, &self.case.policy)])
+        Some(&self.workspace.0[..words_left(self.case)])
+    }
+}
+
+#[cfg(test)]
+mod tests {
+    use reference::generate::calls::{
+        event_edges, event_input, multiset_input, policy_input, EventInput, MultisetInput,
+        PolicyInput,
+    };
+    use reference::generate::Random;
+
+    use super::*;
+
+    /// Both ways to fill a workspace.
+    const FILLS: [Fill; 2] = [tuned::rows::fill, tuned::by_term::fill];
+
+    #[test]
+    fn tuned_code_takes_events_as_the_reference_does() {
+        let mut random = Random::new(21);
+        let mut inputs: Vec<EventInput> =
+            event_edges(&mut random).into_iter().map(|(_, input)| input).collect();
+        inputs.extend((0..600).map(|_| event_input(&mut random)));
+        for input in inputs {
+            for fill in FILLS {
+                let (mut raw, mut monitor) = (input.instance, from_raw(&input.instance));
+                let mut expected = vec![7; input.workspace];
+                let mut workspace = expected.clone();
+                let code = raw.event(input.word, &mut expected) as u8;
+                let got = byte(monitor.event(input.word, &mut workspace, fill), |()| 0);
+                assert_eq!((got, monitor), (code, from_raw(&raw)), "{input:x?}");
+                assert_eq!(workspace, expected, "{input:x?}");
+                let letter = raw.status(&mut expected).map_or_else(|code| code as u8, |c| c as u8);
+                let got = monitor.status(&mut workspace, fill);
+                assert_eq!(byte(got, |status| status.letter() as u8), letter, "{input:x?}");
+                assert_eq!(workspace, expected, "{input:x?}");
+            }
+        }
+    }
+
+    #[test]
+    fn tuned_code_tests_multisets_as_the_reference_does() {
+        let mut random = Random::new(22);
+        for _ in 0..400 {
+            let MultisetInput { users, roles, words, user_roles, counts, workspace } =
+                multiset_input(&mut random);
+            for fill in FILLS {
+                let mut expected = vec![7; workspace];
+                let mut lent = expected.clone();
+                let answer =
+                    multiset::multiset(users, roles, &words, &user_roles, &counts, &mut expected);
+                let given = (users as u8, roles as u8);
+                let got = tuned::satisfies(given, &words, &user_roles, &counts, &mut lent, fill);
+                let code = answer.map_or_else(|code| code as u8, verdict);
+                assert_eq!(byte(got, verdict), code, "{words:x?} {counts:?}");
+                assert_eq!(lent, expected, "{words:x?} {counts:?}");
+            }
+        }
+    }
+
+    #[test]
+    fn tuned_code_opens_and_brings_to_normal_form_as_the_reference_does() {
+        let mut random = Random::new(23);
+        for _ in 0..2000 {
+            let PolicyInput { users, roles, words, output } = policy_input(&mut random);
+            let given = (users as u8, roles as u8);
+            let mut expected = vec![7; output];
+            let mut out = expected.clone();
+            let code = reference::policy::normal_form(users, roles, &words, &mut expected) as u8;
+            let got = tuned::normal::normal_form(given.0, given.1, &words, &mut out);
+            assert_eq!((byte(got, |()| 0), &out), (code, &expected), "{words:x?}");
+            let rows: Vec<u16> = (0..users).map(|_| random.word() as u16 & 7).collect();
+            let (code, raw) = RawInstance::open(users, roles, &words, &rows);
+            let mut monitor = Monitor::default();
+            let got = byte(monitor.open(given.0, given.1, &words, &rows), |()| 0);
+            assert_eq!((got, monitor), (code as u8, from_raw(&raw)), "{words:x?}");
+        }
     }
 }

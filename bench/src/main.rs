@@ -1,57 +1,165 @@
 //! Times the proved library beside three other programs on the same inputs, in one run:
 //!
-//! - (a) the proved library;
+//! - (a) the proved library; if `EARLIER` names a shared library, also (e), an earlier build of it;
 //! - (b) the reference program's search, once as it answers alone and once with the workspace;
 //! - (c) the library's table tuned by hand;
 //! - (d) one table a term.
 //!
-//! Before a case is timed, all of them must agree on the answer and the instance, and those that
+//! Before a case is timed, all of them must agree on the answer and the monitor, and those that
 //! fill the workspace on every word of it. Times are for reading; nothing passes or fails by them.
+//!
+//! `bench rows` lists the rows, `bench time ROW..` times some of them without (b) and (d), and
+//! `bench repeat ROW CANDIDATE RUNS` does one of them so often, for a program that counts
+//! instructions.
 
 mod candidates;
 mod cases;
 mod growth;
+mod library;
 mod report;
 mod timing;
 mod tuned;
 
+use std::process::ExitCode;
+
 use candidates::{Candidate, Proved, Searched, Tuned};
 use cases::Case;
+use library::Library;
 use report::Row;
 
-/// The candidates of a case, in the order of the table.
-fn candidates(case: &Case) -> Vec<Box<dyn Candidate + '_>> {
-    vec![
-        Box::new(Proved::new(case)),
-        Box::new(Tuned::new(case, tuned::rows::fill)),
-        Box::new(Tuned::new(case, tuned::by_term::fill)),
-        Box::new(Searched::new(case, false)),
-        Box::new(Searched::new(case, true)),
-    ]
+/// What the program can do.
+const USAGE: &str = "usage: bench
+       bench rows
+       bench time ROW..
+       bench repeat ROW CANDIDATE RUNS";
+
+/// The builds of the library that are timed.
+struct Builds {
+    linked: Library,
+    earlier: Option<Library>,
 }
 
-/// Stops unless all candidates leave the same.
+impl Builds {
+    fn new() -> Result<Builds, String> {
+        let earlier = std::env::var("EARLIER").ok().filter(|path| !path.is_empty());
+        let earlier = earlier.map(|path| Library::loaded(&path)).transpose()?;
+        Ok(Builds { linked: Library::linked()?, earlier })
+    }
+
+    /// The library in a case, tuned code beside it, and the earlier build, if there is one.
+    fn main_candidates<'a>(&'a self, case: &'a Case) -> Vec<Box<dyn Candidate + 'a>> {
+        let mut all: Vec<Box<dyn Candidate + 'a>> = vec![
+            Box::new(Proved::new(case, &self.linked)),
+            Box::new(Tuned::new(case, tuned::rows::fill)),
+        ];
+        if let Some(earlier) = &self.earlier {
+            all.push(Box::new(Proved::new(case, earlier)));
+        }
+        all
+    }
+
+    /// All candidates of a case.
+    fn candidates<'a>(&'a self, case: &'a Case) -> Vec<Box<dyn Candidate + 'a>> {
+        let mut all: Vec<Box<dyn Candidate + 'a>> = vec![
+            Box::new(Tuned::new(case, tuned::by_term::fill)),
+            Box::new(Searched::new(case, false)),
+            Box::new(Searched::new(case, true)),
+        ];
+        all.extend(self.main_candidates(case));
+        all
+    }
+}
+
+/// Stops unless all candidates of a case leave the same.
 fn agree(case: &Case, all: &mut [Box<dyn Candidate + '_>]) {
     let answers: Vec<u8> = all.iter_mut().map(|candidate| candidate.run()).collect();
-    let name = report::name(case);
+    let name = case.name().join(", ");
     assert!(answers.iter().all(|answer| *answer == answers[0]), "{name}: answers {answers:?}");
-    let instance = all[0].instance();
+    let monitor = all[0].monitor();
     let words: Vec<&[u32]> = all.iter().filter_map(|candidate| candidate.words()).collect();
-    assert!(all.iter().all(|candidate| candidate.instance() == instance), "{name}: instances");
+    assert!(all.iter().all(|candidate| candidate.monitor() == monitor), "{name}: monitors");
     assert!(words.iter().all(|own| *own == words[0]), "{name}: workspaces");
 }
 
-fn main() {
-    report::head();
+/// Prints the whole table and how the cost grows.
+fn print(builds: &Builds) {
+    report::head(builds.earlier.is_some());
     let mut rows = Vec::new();
-    for case in cases::all() {
-        let mut all = candidates(&case);
+    let cases = cases::all();
+    timing::warm_up(&mut builds.candidates(&cases[0]));
+    for case in cases {
+        let mut all = builds.candidates(&case);
         agree(&case, &mut all);
-        let times = timing::compare(&mut all);
-        let row = Row::new(&case, times);
+        let row = Row::new(&case, timing::compare(&mut all));
         row.print();
         rows.push(row);
     }
     report::foot(&rows);
-    growth::print();
+    growth::print(builds);
+}
+
+/// A number from the command line.
+fn number(text: &str) -> Result<usize, String> {
+    text.parse().map_err(|_| format!("{text} is no number"))
+}
+
+/// The case of a row.
+fn case(row: &str) -> Result<Case, String> {
+    cases::all().get(number(row)?).cloned().ok_or(format!("there is no row {row}"))
+}
+
+/// Does one row with one candidate so often.
+fn repeat(builds: &Builds, row: &str, candidate: &str, runs: &str) -> Result<(), String> {
+    let (case, runs) = (case(row)?, number(runs)?);
+    let place = ["library", "tuned", "earlier"].iter().position(|name| *name == candidate);
+    let mut all = builds.main_candidates(&case);
+    let chosen = place.and_then(|place| all.get_mut(place));
+    let chosen = chosen.ok_or(format!("there is no {candidate}"))?;
+    for _ in 0..runs {
+        std::hint::black_box(chosen.run());
+    }
+    Ok(())
+}
+
+/// Prints the best times of the library, tuned code and the earlier build in one row.
+fn time(builds: &Builds, row: &str) -> Result<(), String> {
+    let case = case(row)?;
+    let mut all = builds.main_candidates(&case);
+    agree(&case, &mut all);
+    timing::warm_up(&mut all);
+    let times = timing::compare(&mut all);
+    let times: Vec<String> = times.iter().map(|timed| format!("{:.0} ns", timed.best())).collect();
+    println!("{} | {}", case.name().join(" | "), times.join(" | "));
+    Ok(())
+}
+
+/// What the command line asks for.
+fn run(arguments: &[&str]) -> Result<(), String> {
+    match arguments {
+        [] => print(&Builds::new()?),
+        ["rows"] => {
+            for (row, case) in cases::all().iter().enumerate() {
+                println!("{row} | {}", case.name().join(" | "));
+            }
+        }
+        ["time", rows @ ..] => {
+            let builds = Builds::new()?;
+            rows.iter().try_for_each(|row| time(&builds, row))?;
+        }
+        ["repeat", row, candidate, runs] => repeat(&Builds::new()?, row, candidate, runs)?,
+        _ => return Err(USAGE.to_string()),
+    }
+    Ok(())
+}
+
+fn main() -> ExitCode {
+    let arguments: Vec<String> = std::env::args().skip(1).collect();
+    let arguments: Vec<&str> = arguments.iter().map(String::as_str).collect();
+    match run(&arguments) {
+        Ok(()) => ExitCode::SUCCESS,
+        Err(message) => {
+            eprintln!("{message}");
+            ExitCode::FAILURE
+        }
+    }
 }

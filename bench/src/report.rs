@@ -1,6 +1,6 @@
 //! The table.
 
-use crate::cases::{Case, APART};
+use crate::cases::Case;
 use crate::timing::Timed;
 
 /// A case and the times of its candidates.
@@ -11,12 +11,7 @@ pub struct Row {
     by_term: Timed,
     search: Timed,
     search_fills: Timed,
-}
-
-/// The name of a case: what, which operator prevails, words, actions.
-pub fn name(case: &Case) -> String {
-    let operator = if case.operator == APART { "apart" } else { "together" };
-    format!("{} | {operator} | {} | {}", case.what, case.policy.len(), case.actions)
+    earlier: Option<Timed>,
 }
 
 /// A time with its unit.
@@ -30,7 +25,7 @@ fn time(timed: &Timed) -> String {
 }
 
 /// A ratio.
-fn ratio(ratio: f64) -> String {
+pub fn ratio(ratio: f64) -> String {
     if ratio < 10.0 {
         format!("{ratio:.2}")
     } else {
@@ -41,14 +36,17 @@ fn ratio(ratio: f64) -> String {
 impl Row {
     /// The row of a case; times in the order of its candidates.
     pub fn new(case: &Case, times: Vec<Timed>) -> Row {
-        let [proved, tuned, by_term, search, search_fills] =
-            times.try_into().expect("a case has five candidates");
-        Row { name: name(case), proved, tuned, by_term, search, search_fills }
+        let mut times = times.into_iter();
+        let mut next = || times.next();
+        let mut one = || next().expect("a case has at least five candidates");
+        let [by_term, search, search_fills, proved, tuned] = [(); 5].map(|()| one());
+        let (name, earlier) = (case.name().join(" | "), next());
+        Row { name, proved, tuned, by_term, search, search_fills, earlier }
     }
 
     /// Prints the row.
     pub fn print(&self) {
-        let cells = [
+        let mut cells = vec![
             time(&self.proved),
             time(&self.search_fills),
             time(&self.search),
@@ -59,7 +57,15 @@ impl Row {
             ratio(self.search.over(&self.proved)),
             ratio(self.by_term.over(&self.proved)),
         ];
+        if let Some(earlier) = &self.earlier {
+            cells.extend([time(earlier), ratio(self.proved.over(earlier))]);
+        }
         println!("| {} | {} |", self.name, cells.join(" | "));
+    }
+
+    /// How many nanoseconds the library takes longer than tuned code.
+    fn behind(&self) -> f64 {
+        self.proved.best() - self.tuned.best()
     }
 }
 
@@ -68,17 +74,36 @@ const HEAD: &str = "\
 - (a) the proved library
 - (b) the reference program's search, with the workspace; (b') its answer alone, no workspace filled
 - (c) the library's table tuned by hand
-- (d) one table a term
+- (d) one table a term";
 
+/// The words of the table.
+const WORDS: &str = "
 One line a case. A time is that of one call, the best of several turns in which the candidates
 alternate; a ratio is the middle one of those of each round. \\* slow, so few turns were made.
 
-| call | mostly | words | actions | (a) | (b) | (b') | (c) | (d) | a/c | b/a | b'/a | d/a |
-|---|---|---|---|---|---|---|---|---|---|---|---|---|";
+Policies as people write them: two and three signatures (apart over two and three roles); four eyes,
+plus (some users prepare, others approve, each as often as needed); 01's F; a licensee's of 21 words
+(clerk, pricing, a manager or two accountants, and lawyers, all apart, with notes by others). Policies
+made to measure: \"mostly together\" and \"mostly apart\" are balanced trees of that operator over
+`plus role` and one role, in which every fifth operator is an either; of 3 words, two roles joined.
+
+Actions: how many are judged, those taken before among them. Users: how many users act, in turn. An
+action is the last of them, and is asked for with the others taken. An outsider is a user without any
+role, whose action is turned away after the others' eleven. A grant goes to an instance with eleven
+actions, and judges none.
+";
 
 /// Prints what stands over the rows.
-pub fn head() {
+pub fn head(earlier: bool) {
     println!("{HEAD}");
+    if earlier {
+        println!("- (e) an earlier build of the library");
+    }
+    println!("{WORDS}");
+    let (more, lines) = if earlier { (" (e) | a/e |", "---|---|") } else { ("", "") };
+    let times = "(a) | (b) | (b') | (c) | (d) | a/c | b/a | b'/a | d/a |";
+    println!("| call | policy | words | actions | users | {times}{more}");
+    println!("|{}{lines}", "---|".repeat(14));
 }
 
 /// Prints what stands below the rows.
@@ -90,7 +115,11 @@ pub fn foot(rows: &[Row]) {
         println!("Largest a/c: {:.2} ({}).", over_tuned(worst), worst.name.replace(" | ", ", "));
     }
     let above = count(&|row| over_tuned(row) > 1.25);
-    println!("Rows with a/c above 1.25: {above} of {}.", rows.len());
+    let far = count(&|row| over_tuned(row) > 1.25 && row.behind() > 100.0);
+    let all = rows.len();
+    println!(
+        "Rows with a/c above 1.25: {above} of {all}; of these more than 100 ns behind: {far}."
+    );
     let slower = count(&|row| row.search_fills.over(&row.proved) < 1.0);
     println!("Rows in which (a) is slower than (b): {slower}.");
     let slower = count(&|row| row.search.over(&row.proved) < 1.0);

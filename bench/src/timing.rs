@@ -13,6 +13,8 @@ const ROUNDS: usize = 41;
 const FEW_ROUNDS: usize = 5;
 /// From where on a single run counts as slow.
 const SLOW: Duration = Duration::from_millis(10);
+/// How long the machine is kept busy before the first turn that counts.
+const WARM: Duration = Duration::from_millis(500);
 
 /// The time of one run in each turn, in nanoseconds.
 #[derive(Clone, Debug)]
@@ -66,6 +68,16 @@ fn runs_a_turn(candidate: &mut dyn Candidate) -> u32 {
         runs *= 2;
     }
     runs
+}
+
+/// Keeps the machine busy with these candidates until it has its full pace.
+pub fn warm_up(candidates: &mut [Box<dyn Candidate + '_>]) {
+    let start = Instant::now();
+    while start.elapsed() < WARM {
+        for candidate in candidates.iter_mut() {
+            turn(candidate.as_mut(), 8);
+        }
+    }
 }
 
 /// Times all candidates.

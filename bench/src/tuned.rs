@@ -1,5 +1,6 @@
 //! The whole job as an engineer would write it for speed, with no proof to keep in step: the policy
-//! is read once a call, nothing is copied that need not be, and what is not read is not cleared.
+//! is read once a call, with what the acting users meet, monitors are altered where they stand, and
+//! what is not read is not cleared.
 //!
 //! How the workspace is filled is a parameter, so that two ways can be compared.
 
@@ -9,7 +10,7 @@ pub mod policy;
 pub mod rows;
 
 use oskhrein::{Refusal, Status};
-use policy::Shape;
+use policy::{All, Nobody, One, Shape, Who};
 
 /// The words of a workspace.
 pub const WORDS: usize = 8192;
@@ -21,31 +22,47 @@ pub const SETS: usize = 4096;
 #[repr(C)]
 pub struct Action {
     /// The user who acted.
-    pub user: u8,
+    pub user: u32,
     /// The unit terms met.
     pub met: u32,
 }
 
-/// An instance.
+/// Who is declared, and who holds which roles.
+#[derive(Clone, Copy, Debug, Default, PartialEq, Eq)]
+#[repr(C)]
+pub struct Configuration {
+    /// The roles of each user.
+    pub user_roles: [u16; 16],
+    /// How many users.
+    pub users: u16,
+    /// How many roles.
+    pub roles: u16,
+}
+
+/// One run under a policy.
 #[derive(Clone, Copy, Debug, Default, PartialEq, Eq)]
 #[repr(C)]
 pub struct Instance {
     /// The policy's words.
     pub policy: [u32; 31],
-    /// How many words.
-    pub words: u8,
-    /// How many users.
-    pub users: u8,
-    /// How many roles.
-    pub roles: u8,
-    /// The roles of each user.
-    pub user_roles: [u16; 16],
     /// The taken actions.
     pub actions: [Action; 12],
-    /// How many.
+    /// How many words.
+    pub words: u16,
+    /// How many actions.
     pub taken: u8,
-    /// Whether it is closed.
-    pub closed: bool,
+    /// 0 while it is open.
+    pub closed: u8,
+}
+
+/// A monitor.
+#[derive(Clone, Copy, Debug, Default, PartialEq, Eq)]
+#[repr(C)]
+pub struct Monitor {
+    /// Who may act.
+    pub configuration: Configuration,
+    /// What was done.
+    pub instance: Instance,
 }
 
 /// Fills a workspace for some actions.
@@ -53,20 +70,8 @@ pub type Fill = fn(&Shape, &[Action], &mut [u32; WORDS]);
 
 /// Whether rows name only declared roles.
 #[inline]
-fn rows_fit(roles: u8, rows: &[u16]) -> bool {
+fn rows_fit(roles: u32, rows: &[u16]) -> bool {
     u32::from(rows.iter().fold(0, |all, row| all | row)) >> roles == 0
-}
-
-/// Opens an instance, or answers 5, 1, 2, 3, 4 or 6.
-pub fn open(users: u8, roles: u8, words: &[u32], rows: &[u16]) -> Result<Instance, Refusal> {
-    policy::read(users, roles, words)?;
-    if rows.len() != usize::from(users) || !rows_fit(roles, rows) {
-        return Err(Refusal::Rows);
-    }
-    let mut instance = Instance { words: words.len() as u8, users, roles, ..Instance::default() };
-    instance.policy[..words.len()].copy_from_slice(words);
-    instance.user_roles[..rows.len()].copy_from_slice(rows);
-    Ok(instance)
 }
 
 /// The 8,192 words of a workspace that a call was lent, or 12.
@@ -76,62 +81,39 @@ fn lent(workspace: &mut [u32]) -> Result<&mut [u32; WORDS], Refusal> {
     words.try_into().map_err(|_| Refusal::Workspace)
 }
 
-impl Instance {
-    /// The shape of a well-formed instance's policy.
+impl Configuration {
+    /// Whether the rows name only declared roles, and those past the users are zero.
     #[inline]
-    fn check(&self) -> Option<Shape> {
-        let words = self.policy.get(..usize::from(self.words))?;
-        let shape = policy::read(self.users, self.roles, words).ok()?;
-        let (rows, past_rows) = self.user_roles.split_at(usize::from(self.users));
-        let (taken, past_taken) = self.actions.split_at_checked(usize::from(self.taken))?;
-        let fits = |action: &Action| action.user < self.users && action.met & !shape.units == 0;
-        let well_formed = rows_fit(self.roles, rows)
-            && taken.iter().all(fits)
-            && past_rows.iter().all(|row| *row == 0)
-            && self.policy[words.len()..].iter().all(|word| *word == 0)
-            && past_taken.iter().all(|action| *action == Action::default());
-        well_formed.then_some(shape)
+    fn is_well_formed(&self) -> bool {
+        let (rows, past) = self.user_roles.split_at(usize::from(self.users & 31).min(16));
+        rows_fit(self.roles.into(), rows) && past.iter().fold(0, |all, row| all | row) == 0
     }
+}
 
-    /// What is noted of an action by a user.
+impl Instance {
+    /// The same of an instance's words and actions under a policy of this shape.
     #[inline]
-    fn noted(&self, shape: &Shape, user: u8) -> Action {
-        let words = &self.policy[..shape.words];
-        let held = self.user_roles[usize::from(user & 15)];
-        Action { user, met: policy::met(shape, words, user, held) }
+    fn is_well_formed(&self, users: u32, shape: &Shape) -> bool {
+        let Some((taken, past)) = self.actions.split_at_checked(usize::from(self.taken)) else {
+            return false;
+        };
+        let fits = |action: &Action| action.user < users && action.met & !shape.units == 0;
+        taken.iter().all(fits)
+            && past.iter().fold(0, |all, action| all | action.user | action.met) == 0
+            && self.policy[shape.words..].iter().fold(0, |all, word| all | word) == 0
     }
 
     /// The taken actions.
     #[inline]
     fn taken(&self) -> &[Action] {
-        &self.actions[..usize::from(self.taken)]
+        &self.actions[..usize::from(self.taken).min(12)]
     }
 
-    /// One event: 12, 15, 10, 7, then 8, 9 or 11.
-    pub fn event(&mut self, word: u32, workspace: &mut [u32], fill: Fill) -> Result<(), Refusal> {
-        let workspace = lent(workspace)?;
-        let shape = self.check().ok_or(Refusal::Monitor)?;
-        if self.closed {
-            return Err(Refusal::Closed);
-        }
-        let [low, user, zero, kind] = word.to_le_bytes();
-        let declared = zero == 0 && user < self.users;
-        let row = &mut self.user_roles[usize::from(user & 15)];
-        match kind {
-            1 if declared => return self.act(&shape, user, workspace, fill),
-            2 if declared && low < self.roles => *row |= 1 << (low & 15),
-            3 if declared && low < self.roles => *row &= !(1 << (low & 15)),
-            4 if word == 4 << 24 => return self.close(&shape, workspace, fill),
-            _ => return Err(Refusal::Malformed),
-        }
-        Ok(())
-    }
-
-    /// An action by a declared user.
+    /// An action by a declared user who met this.
     fn act(
         &mut self,
         shape: &Shape,
-        user: u8,
+        action: Action,
         workspace: &mut [u32; WORDS],
         fill: Fill,
     ) -> Result<(), Refusal> {
@@ -139,7 +121,7 @@ impl Instance {
         if place >= self.actions.len() {
             return Err(Refusal::Full);
         }
-        self.actions[place] = self.noted(shape, user);
+        self.actions[place] = action;
         fill(shape, &self.actions[..=place], workspace);
         if workspace[SETS + (2 << place) - 1] & 1 == 0 {
             self.actions[place] = Action::default();
@@ -152,31 +134,103 @@ impl Instance {
     /// Fills the workspace for the taken actions, and answers whether they satisfy the policy.
     fn satisfied(&self, shape: &Shape, workspace: &mut [u32; WORDS], fill: Fill) -> bool {
         fill(shape, self.taken(), workspace);
-        workspace[(1 << self.taken) - 1] & 1 == 1
+        workspace[(1 << self.taken().len()) - 1] & 1 == 1
+    }
+}
+
+impl Monitor {
+    /// Opens a monitor, or answers 5, 1, 2, 3, 4 or 6 and leaves the blank one.
+    pub fn open(
+        &mut self,
+        users: u8,
+        roles: u8,
+        words: &[u32],
+        rows: &[u16],
+    ) -> Result<(), Refusal> {
+        // SAFETY: a monitor is numbers throughout, each of which may be zero.
+        *self = unsafe { std::mem::zeroed() };
+        policy::read(users.into(), roles.into(), words, &mut Nobody)?;
+        if rows.len() != usize::from(users) || !rows_fit(roles.into(), rows) {
+            return Err(Refusal::Rows);
+        }
+        let Monitor { configuration, instance } = self;
+        (configuration.users, configuration.roles) = (users.into(), roles.into());
+        configuration.user_roles[..rows.len()].copy_from_slice(rows);
+        instance.policy[..words.len()].copy_from_slice(words);
+        instance.words = words.len() as u16;
+        Ok(())
     }
 
-    /// A close.
-    fn close(
-        &mut self,
-        shape: &Shape,
-        workspace: &mut [u32; WORDS],
-        fill: Fill,
-    ) -> Result<(), Refusal> {
-        self.closed = self.satisfied(shape, workspace, fill);
-        self.closed.then_some(()).ok_or(Refusal::NotSatisfied)
+    /// The shape of a well-formed monitor's policy, read with what some users meet.
+    #[inline(always)]
+    fn check(&self, who: &mut impl Who) -> Option<Shape> {
+        let Monitor { configuration, instance } = self;
+        let words = instance.policy.get(..usize::from(instance.words))?;
+        let (users, roles) = (configuration.users.into(), configuration.roles.into());
+        let shape = policy::read(users, roles, words, who).ok()?;
+        let well_formed = configuration.is_well_formed() && instance.is_well_formed(users, &shape);
+        well_formed.then_some(shape)
+    }
+
+    /// One event: 12, 15, 10, 7, then 8, 9 or 11. The policy is read for the user that the word
+    /// names, whether or not it is an action's.
+    pub fn event(&mut self, word: u32, workspace: &mut [u32], fill: Fill) -> Result<(), Refusal> {
+        let workspace = lent(workspace)?;
+        let [low, user, zero, kind] = word.to_le_bytes();
+        if kind == 1 {
+            let mut one = One::new(user, self.configuration.user_roles[usize::from(user & 15)]);
+            let shape = self.check(&mut one).ok_or(Refusal::Monitor)?;
+            return match () {
+                () if self.instance.closed != 0 => Err(Refusal::Closed),
+                () if zero != 0 || u16::from(user) >= self.configuration.users => {
+                    Err(Refusal::Malformed)
+                }
+                () => {
+                    let action = Action { user: user.into(), met: one.met };
+                    self.instance.act(&shape, action, workspace, fill)
+                }
+            };
+        }
+        let shape = self.check(&mut Nobody).ok_or(Refusal::Monitor)?;
+        let Monitor { configuration: Configuration { user_roles, users, roles }, instance } = self;
+        if instance.closed != 0 {
+            return Err(Refusal::Closed);
+        }
+        let declared = zero == 0 && u16::from(user) < *users && u16::from(low) < *roles;
+        let row = &mut user_roles[usize::from(user & 15)];
+        match kind {
+            2 if declared => *row |= 1 << (low & 15),
+            3 if declared => *row &= !(1 << (low & 15)),
+            4 if word == 4 << 24 => {
+                let satisfied = instance.satisfied(&shape, workspace, fill);
+                instance.closed = satisfied.into();
+                return satisfied.then_some(()).ok_or(Refusal::NotSatisfied);
+            }
+            _ => return Err(Refusal::Malformed),
+        }
+        Ok(())
     }
 
     /// The status, or 12 or 15.
     pub fn status(&self, workspace: &mut [u32], fill: Fill) -> Result<Status, Refusal> {
         let workspace = lent(workspace)?;
-        let shape = self.check().ok_or(Refusal::Monitor)?;
-        let satisfied = self.satisfied(&shape, workspace, fill);
-        Ok(match (self.closed, satisfied) {
-            (true, _) => Status::Closed,
-            (false, true) => Status::Complete,
-            (false, false) => Status::Open,
+        let shape = self.check(&mut Nobody).ok_or(Refusal::Monitor)?;
+        let satisfied = self.instance.satisfied(&shape, workspace, fill);
+        Ok(match (self.instance.closed, satisfied) {
+            (0, true) => Status::Complete,
+            (0, false) => Status::Open,
+            _ => Status::Closed,
         })
     }
+}
+
+/// The users with a count above 0, as a mask, and the sum of the counts.
+#[inline]
+fn counted(counts: &[u8; 16]) -> (u32, u32) {
+    let one = |(users, all): (u32, u32), (user, count): (usize, &u8)| {
+        (users | u32::from(*count != 0) << user, all + u32::from(*count))
+    };
+    counts.iter().enumerate().fold((0, 0), one)
 }
 
 /// The multiset test, or 12, the opening's numbers, 7 or 8.
@@ -189,25 +243,26 @@ pub fn satisfies(
     fill: Fill,
 ) -> Result<bool, Refusal> {
     let workspace = lent(workspace)?;
-    let shape = policy::read(users, roles, words)?;
-    if rows.len() != usize::from(users) || !rows_fit(roles, rows) {
+    let (acting, sum) = counted(counts);
+    let mut all = All::new(rows, acting);
+    let shape = policy::read(users.into(), roles.into(), words, &mut all)?;
+    if rows.len() != usize::from(users) || !rows_fit(roles.into(), rows) {
         return Err(Refusal::Rows);
     }
-    if counts[rows.len()..].iter().any(|count| *count != 0) {
+    if acting >> users != 0 {
         return Err(Refusal::Malformed);
     }
-    if counts.iter().map(|count| u32::from(*count)).sum::<u32>() > 12 {
+    if sum > 12 {
         return Err(Refusal::Full);
     }
     let mut actions = [Action::default(); 12];
-    let mut taken = 0;
-    for (user, (count, held)) in counts.iter().zip(rows).enumerate() {
-        if *count > 0 {
-            let met = policy::met(&shape, words, user as u8, *held);
-            let end = taken + usize::from(*count);
-            actions[taken..end].fill(Action { user: user as u8, met });
-            taken = end;
-        }
+    let (mut taken, mut left) = (0, acting);
+    while left != 0 {
+        let user = left.trailing_zeros();
+        left &= left - 1;
+        let end = taken + usize::from(counts[user as usize & 15]);
+        actions[taken..end].fill(Action { user, met: all.met(user, &shape) });
+        taken = end;
     }
     fill(&shape, &actions[..taken], workspace);
     Ok(workspace[(1 << taken) - 1] & 1 == 1)

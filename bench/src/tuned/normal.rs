@@ -2,7 +2,7 @@
 
 use oskhrein::{Refusal, MAX_WORDS};
 
-use super::policy;
+use super::policy::{self, Nobody};
 
 /// The words of a policy, and where its right sides begin.
 struct Policy<'a> {
@@ -86,7 +86,7 @@ impl Policy<'_> {
 
 /// Writes the normal form of a policy at the start of out, or answers 5, 1 to 4 or 13.
 pub fn normal_form(users: u8, roles: u8, words: &[u32], out: &mut [u32]) -> Result<(), Refusal> {
-    let shape = policy::read(users, roles, words)?;
+    let shape = policy::read(users.into(), roles.into(), words, &mut Nobody)?;
     let out = out.get_mut(..words.len()).ok_or(Refusal::Output)?;
     let policy = Policy { words, right: shape.right };
     policy.normal(0, out, &mut 0);

@@ -1,0 +1,187 @@
+//! The proved library by its exported calls: the one that is linked, and an earlier build of it
+//! that is loaded, whose monitors may be laid out in another way.
+
+use std::ffi::{c_char, c_int, c_void, CString};
+use std::mem::{align_of, size_of, transmute};
+use std::ptr::{self, NonNull};
+
+use oskhrein::raw::{self, Calls};
+
+use crate::tuned::{Action, Configuration, Instance, Monitor};
+
+/// The bytes of a monitor where the caller keeps it, padding among them.
+#[repr(C, align(4))]
+#[derive(Clone, Copy)]
+pub struct Stored([u8; 260]);
+
+const _: () = {
+    assert!(size_of::<Stored>() == size_of::<raw::Monitor>());
+    assert!(align_of::<Stored>() == align_of::<raw::Monitor>());
+    assert!(size_of::<Stored>() == size_of::<Monitor>());
+};
+
+/// Where the parts of a monitor stand in its bytes.
+#[derive(Clone, Copy)]
+struct Layout {
+    write: fn(&Monitor) -> Stored,
+    read: fn(&Stored) -> Monitor,
+}
+
+/// The layouts that a library may have.
+const LAYOUTS: [Layout; 2] = [
+    Layout { write: in_parts, read: from_parts },
+    Layout { write: in_one_piece, read: from_one_piece },
+];
+
+/// A configuration, then an instance, no padding.
+fn in_parts(monitor: &Monitor) -> Stored {
+    // SAFETY: both are as long, and a monitor has no padding.
+    Stored(unsafe { transmute::<Monitor, [u8; 260]>(*monitor) })
+}
+
+/// The other way.
+fn from_parts(stored: &Stored) -> Monitor {
+    // SAFETY: both are as long, and every byte is one of a number.
+    unsafe { transmute::<[u8; 260], Monitor>(stored.0) }
+}
+
+/// Policy, its length, the counts, rows, actions, their number, the mark; padding zero.
+fn in_one_piece(monitor: &Monitor) -> Stored {
+    let Monitor { configuration, instance } = monitor;
+    let mut bytes = Vec::new();
+    instance.policy.iter().for_each(|word| bytes.extend(word.to_le_bytes()));
+    bytes.extend([instance.words as u8, configuration.users as u8, configuration.roles as u8, 0]);
+    configuration.user_roles.iter().for_each(|row| bytes.extend(row.to_le_bytes()));
+    for action in instance.actions {
+        bytes.extend([action.user as u8, 0, 0, 0]);
+        bytes.extend(action.met.to_le_bytes());
+    }
+    bytes.extend([instance.taken, instance.closed, 0, 0]);
+    Stored(bytes.try_into().expect("260 bytes"))
+}
+
+/// The other way.
+fn from_one_piece(Stored(bytes): &Stored) -> Monitor {
+    let word = |at: usize| u32::from_le_bytes([0, 1, 2, 3].map(|byte| bytes[at + byte]));
+    let row = |at: usize| u16::from_le_bytes([bytes[at], bytes[at + 1]]);
+    let action = |at: usize| Action { user: bytes[at].into(), met: word(at + 4) };
+    let [words, users, roles] = [124, 125, 126].map(|at| u16::from(bytes[at]));
+    let user_roles = std::array::from_fn(|user| row(128 + 2 * user));
+    let instance = Instance {
+        policy: std::array::from_fn(|place| word(4 * place)),
+        actions: std::array::from_fn(|place| action(160 + 8 * place)),
+        words,
+        taken: bytes[256],
+        closed: bytes[257],
+    };
+    Monitor { configuration: Configuration { user_roles, users, roles }, instance }
+}
+
+extern "C" {
+    fn dlopen(name: *const c_char, flags: c_int) -> *mut c_void;
+    fn dlsym(library: *mut c_void, name: *const c_char) -> *mut c_void;
+}
+
+/// What an early build says of itself.
+extern "C" fn unknown() -> u32 {
+    0
+}
+
+/// The calls of a shared library, which stays open.
+fn load(path: &str) -> Result<Calls, String> {
+    const NOW: c_int = 2;
+    let name = CString::new(path).map_err(|error| error.to_string())?;
+    // SAFETY: the name ends in a zero byte.
+    let library = unsafe { dlopen(name.as_ptr(), NOW) };
+    if library.is_null() {
+        return Err(format!("{path} is no shared library that can be opened"));
+    }
+    let find = |name: &str| {
+        let text = CString::new(name).ok()?;
+        // SAFETY: the library is open, and the name ends in a zero byte.
+        let found = NonNull::new(unsafe { dlsym(library, text.as_ptr()) });
+        let of_itself = matches!(name, "oskhrein_version" | "oskhrein_layout");
+        found.or(if of_itself { NonNull::new(unknown as *mut c_void) } else { None })
+    };
+    // SAFETY: it is an earlier build of the linked library; what stands in for what it lacks has the
+    // same type.
+    unsafe { Calls::loaded(find) }.map_err(|name| format!("{path} has no {name}"))
+}
+
+/// A build of the library.
+#[derive(Clone, Copy)]
+pub struct Library {
+    calls: Calls,
+    layout: Layout,
+}
+
+impl Library {
+    /// The one that is linked.
+    pub fn linked() -> Result<Library, String> {
+        Library::new(Calls::LINKED)
+    }
+
+    /// The one in a shared library.
+    pub fn loaded(path: &str) -> Result<Library, String> {
+        Library::new(load(path)?)
+    }
+
+    /// The library with these calls. Its layout is the one in which it opens a monitor.
+    fn new(calls: Calls) -> Result<Library, String> {
+        let (policy, rows) = ([9 << 24, 1 << 24, 1 << 24], [1, 2, 4]);
+        let mut expected = Monitor::default();
+        expected.open(3, 4, &policy, &rows).map_err(|refusal| refusal.to_string())?;
+        for layout in LAYOUTS {
+            let library = Library { calls, layout };
+            let mut stored = Stored([0; 260]);
+            library.open(&mut stored, 3, 4, &policy, &rows);
+            if library.monitor(&stored) == expected {
+                return Ok(library);
+            }
+        }
+        Err("the library opens a monitor in a layout that is not known here".to_string())
+    }
+
+    /// A monitor as this library has it.
+    pub fn stored(&self, monitor: &Monitor) -> Stored {
+        (self.layout.write)(monitor)
+    }
+
+    /// What this library made of one.
+    pub fn monitor(&self, stored: &Stored) -> Monitor {
+        (self.layout.read)(stored)
+    }
+
+    /// Opens a monitor.
+    pub fn open(
+        &self,
+        stored: &mut Stored,
+        users: u8,
+        roles: u8,
+        words: &[u32],
+        rows: &[u16],
+    ) -> u8 {
+        self.calls.open(raw_mut(stored), users, roles, words, rows)
+    }
+
+    /// One event.
+    pub fn event(&self, stored: &mut Stored, word: u32, workspace: &mut [u32]) -> u8 {
+        self.calls.event(raw_mut(stored), word, workspace)
+    }
+
+    /// The status.
+    pub fn status(&self, stored: &mut Stored, workspace: &mut [u32]) -> u8 {
+        self.calls.status(raw_mut(stored), workspace)
+    }
+
+    /// The calls that are lent no monitor.
+    pub fn calls(&self) -> &Calls {
+        &self.calls
+    }
+}
+
+/// The bytes as the struct that the declarations have.
+fn raw_mut(stored: &mut Stored) -> &mut raw::Monitor {
+    // SAFETY: both are as long and as aligned, and every byte is one of a number or of padding.
+    unsafe { &mut *ptr::from_mut(stored).cast() }
+}
