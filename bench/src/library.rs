@@ -185,3 +185,24 @@ fn raw_mut(stored: &mut Stored) -> &mut raw::Monitor {
     // SAFETY: both are as long and as aligned, and every byte is one of a number or of padding.
     unsafe { &mut *ptr::from_mut(stored).cast() }
 }
+
+#[cfg(test)]
+mod tests {
+    use super::*;
+
+    #[test]
+    fn each_layout_reads_what_it_writes() {
+        let mut monitor = Monitor::default();
+        monitor.open(16, 9, &[9 << 24, 1 << 24, 2 << 24 | 8], &[0x1a5; 16]).expect("it opens");
+        monitor.instance.actions[..2].fill(Action { user: 15, met: 0x7654_3210 });
+        (monitor.instance.taken, monitor.instance.closed) = (2, 1);
+        for layout in LAYOUTS {
+            assert_eq!((layout.read)(&(layout.write)(&monitor)), monitor);
+        }
+    }
+
+    #[test]
+    fn the_linked_library_has_a_known_layout() {
+        assert!(Library::linked().is_ok());
+    }
+}
