@@ -7,8 +7,8 @@
  * The caller owes, for every call:
  * - Each pointer is aligned, not null, and valid for its length, which counts elements and follows the pointer; an array of length 0
  *   needs a pointer too. What one call is lent does not overlap.
- * - A monitor is initialised, and its `closed` is 0 or 1. OSKHREIN_BLANK, or zeroed memory, is such a monitor. oskhrein_open needs it
- *   too, though it replaces what it finds.
+ * - A monitor is initialised, with any bytes: whatever they are, the call answers. OSKHREIN_BLANK and zeroed memory will do.
+ *   oskhrein_open needs it too, though it replaces what it finds.
  * - Nobody else writes what a call is lent while it runs. Calls on separate memory may run at the same time.
  *
  * Everything else may be wrong: the call then answers a number.
@@ -27,7 +27,7 @@
 
 /* The number of the layout of struct oskhrein_monitor, another one whenever the struct is another. Keep it beside a stored monitor, and
  * reload only what was stored under the same number. oskhrein_layout gives that of the library. */
-#define OSKHREIN_LAYOUT 1
+#define OSKHREIN_LAYOUT 2
 
 #ifdef __cplusplus
 extern "C" {
@@ -112,23 +112,33 @@ enum {
     OSKHREIN_WORKSPACE_WORDS = 8192
 };
 
+/* A configuration: the roles that each user holds (bit r for role r), and the counts. Rows past the users are zero. */
+struct oskhrein_configuration {
+    uint16_t user_roles[OSKHREIN_MAX_USERS];
+    uint16_t users;
+    uint16_t roles;
+};
+
 /* A taken action. Bit i of met: its user met the unit term that begins at policy word i when the action was taken. */
 struct oskhrein_action {
-    uint8_t user;
+    uint32_t user;
     uint32_t met;
 };
 
-/* A monitor: the policy and its word count, the counts, the roles that each user holds (bit r for role r), the taken actions in order
- * of arrival and their number, and the closed mark. What is unused is zero. */
-struct oskhrein_monitor {
+/* An instance: the policy, the taken actions in order of arrival, the policy's word count, the number of the actions, and the closed
+ * mark: 0 is open, every other value closed. Words and places past their numbers are zero. */
+struct oskhrein_instance {
     uint32_t policy[OSKHREIN_MAX_WORDS];
-    uint8_t words;
-    uint8_t users;
-    uint8_t roles;
-    uint16_t user_roles[OSKHREIN_MAX_USERS];
     struct oskhrein_action actions[OSKHREIN_MAX_ACTIONS];
+    uint16_t words;
     uint8_t taken;
-    uint8_t closed; /* 0 or 1 */
+    uint8_t closed;
+};
+
+/* A monitor. It has no padding: each of its bytes is a field's, so it may be compared, hashed and stored as bytes. */
+struct oskhrein_monitor {
+    struct oskhrein_configuration configuration;
+    struct oskhrein_instance instance;
 };
 
 /* What a monitor is initialised with: all zero. */
@@ -138,14 +148,20 @@ struct oskhrein_monitor {
 #define OSKHREIN_BLANK {0}
 #endif
 
-/* The struct is as the library has it. A compiler of C99 or C++98 cannot say so. */
+/* The struct is as the library has it, and its fields are all of it. A compiler of C99 or C++98 cannot say so. */
+#define OSKHREIN_FIELDS \
+    (OSKHREIN_MAX_USERS * sizeof(uint16_t) + 2 * sizeof(uint16_t) + OSKHREIN_MAX_WORDS * sizeof(uint32_t) + \
+     OSKHREIN_MAX_ACTIONS * 2 * sizeof(uint32_t) + sizeof(uint16_t) + 2 * sizeof(uint8_t))
 #if defined __cplusplus && __cplusplus >= 201103L
 static_assert(sizeof(struct oskhrein_monitor) == 260, "a monitor has 260 bytes");
+static_assert(sizeof(struct oskhrein_monitor) == OSKHREIN_FIELDS, "a monitor has no padding");
 static_assert(alignof(struct oskhrein_monitor) == 4, "a monitor stands at a multiple of 4");
 #elif defined __STDC_VERSION__ && __STDC_VERSION__ >= 201112L
 _Static_assert(sizeof(struct oskhrein_monitor) == 260, "a monitor has 260 bytes");
+_Static_assert(sizeof(struct oskhrein_monitor) == OSKHREIN_FIELDS, "a monitor has no padding");
 _Static_assert(_Alignof(struct oskhrein_monitor) == 4, "a monitor stands at a multiple of 4");
 #endif
+#undef OSKHREIN_FIELDS
 
 /*
  * The workspace: at least OSKHREIN_WORKSPACE_WORDS words. Where a call fills it, it speaks of n actions, bit j of a mask standing for

@@ -77,7 +77,7 @@ mod term;
 mod workspace;
 
 pub use event::Event;
-pub use monitor::{Monitor, UnknownMark};
+pub use monitor::Monitor;
 pub use raw::{Action, LAYOUT, MAX_ACTIONS, MAX_ROLES, MAX_USERS, MAX_WORDS};
 pub use refusal::Refusal;
 pub use status::Status;

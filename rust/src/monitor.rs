@@ -1,8 +1,5 @@
 //! A monitor: opening, events, the status, and the bytes in which it is stored.
 
-use std::error::Error;
-use std::fmt;
-
 use crate::event::Event;
 use crate::raw::{self, Action, Calls, LAYOUT};
 use crate::refusal::{self, Refusal};
@@ -75,49 +72,46 @@ impl Monitor {
 
     /// The policy's words.
     pub fn policy(&self) -> &[u32] {
-        first(&self.raw.policy, self.raw.words.into())
+        first(&self.raw.instance.policy, self.raw.instance.words.into())
     }
 
     /// How many users are declared.
     pub fn users(&self) -> usize {
-        self.raw.users.into()
+        self.raw.configuration.users.into()
     }
 
     /// How many roles are declared.
     pub fn roles(&self) -> usize {
-        self.raw.roles.into()
+        self.raw.configuration.roles.into()
     }
 
     /// The roles that each user holds now, bit r for role r.
     pub fn user_roles(&self) -> &[u16] {
-        first(&self.raw.user_roles, self.users())
+        first(&self.raw.configuration.user_roles, self.users())
     }
 
     /// The taken actions, in order of arrival.
     pub fn actions(&self) -> &[Action] {
-        first(&self.raw.actions, self.raw.taken.into())
+        first(&self.raw.instance.actions, self.raw.instance.taken.into())
     }
 
     /// Whether the monitor is closed.
     pub fn is_closed(&self) -> bool {
-        self.raw.closed != 0
+        self.raw.instance.closed != 0
     }
 
-    /// The monitor in bytes: C's layout of it, each number low byte first, padding zero. Keep
-    /// [`LAYOUT`] beside them.
+    /// The monitor in bytes: C's layout of it, each number low byte first. Keep [`LAYOUT`] beside
+    /// them.
     pub fn to_bytes(&self) -> [u8; Self::BYTES] {
         self.raw.to_bytes()
     }
 
-    /// The monitor that was stored in these bytes. Padding is not looked at.
+    /// The monitor that was stored in these bytes.
     ///
     /// Bytes that no monitor was stored in may give one that is malformed. Each call on it answers
     /// [`Refusal::Monitor`], and [`policy`](Self::policy), [`user_roles`](Self::user_roles) and
     /// [`actions`](Self::actions) give no more of it than there is.
-    ///
-    /// # Errors
-    /// If the closed mark is neither 0 nor 1.
-    pub fn from_bytes(bytes: &[u8; Self::BYTES]) -> Result<Monitor, UnknownMark> {
+    pub fn from_bytes(bytes: &[u8; Self::BYTES]) -> Monitor {
         Monitor::from_raw(raw::Monitor::from_bytes(bytes))
     }
 
@@ -127,15 +121,9 @@ impl Monitor {
     }
 
     /// The monitor that C's layout holds, as [`from_bytes`](Self::from_bytes) takes it from bytes.
-    ///
-    /// # Errors
-    /// If the closed mark is neither 0 nor 1.
-    pub fn from_raw(raw: raw::Monitor) -> Result<Monitor, UnknownMark> {
+    pub fn from_raw(raw: raw::Monitor) -> Monitor {
         assert_layout();
-        match raw.closed {
-            0 | 1 => Ok(Monitor { raw }),
-            mark => Err(UnknownMark { mark }),
-        }
+        Monitor { raw }
     }
 }
 
@@ -149,17 +137,3 @@ fn assert_layout() {
 fn first<T>(all: &[T], count: usize) -> &[T] {
     &all[..all.len().min(count)]
 }
-
-/// Stored bytes whose closed mark is neither 0 nor 1.
-#[derive(Clone, Copy, Debug, PartialEq, Eq)]
-pub struct UnknownMark {
-    mark: u8,
-}
-
-impl fmt::Display for UnknownMark {
-    fn fmt(&self, f: &mut fmt::Formatter<'_>) -> fmt::Result {
-        write!(f, "the closed mark is {}, neither 0 nor 1", self.mark)
-    }
-}
-
-impl Error for UnknownMark {}

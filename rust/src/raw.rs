@@ -7,8 +7,7 @@
 //!    or a slice, and the slice's own length follows it.
 //! 2. What one call is lent does not overlap, and nobody else writes it meanwhile. Here all that a
 //!    call writes is behind a `&mut`, and all that it only reads behind a `&`.
-//! 3. A monitor is initialised and its `closed` is 0 or 1. The type sees to the first, and each
-//!    function here to the second.
+//! 3. A monitor is initialised. The type sees to that; any bytes will do.
 //!
 //! A call neither keeps a pointer nor unwinds.
 
@@ -18,7 +17,8 @@ use std::ffi::c_void;
 use std::mem::transmute;
 use std::ptr::NonNull;
 
-pub use layout::{Action, Monitor, LAYOUT, MAX_ACTIONS, MAX_ROLES, MAX_USERS, MAX_WORDS};
+pub use layout::{Action, Configuration, Instance, Monitor};
+pub use layout::{LAYOUT, MAX_ACTIONS, MAX_ROLES, MAX_USERS, MAX_WORDS};
 
 /// How many words a workspace has at least.
 pub const WORKSPACE_WORDS: usize = 8192;
@@ -110,9 +110,6 @@ exported! {
 
 impl Calls {
     /// Opens a monitor. A refusal leaves the blank one.
-    ///
-    /// # Panics
-    /// If the mark of what is lent is neither 0 nor 1.
     pub fn open(
         &self,
         monitor: &mut Monitor,
@@ -121,32 +118,23 @@ impl Calls {
         words: &[u32],
         rows: &[u16],
     ) -> u8 {
-        assert_mark(monitor);
         let (words, n_words) = (words.as_ptr(), words.len());
         let (rows, n_rows) = (rows.as_ptr(), rows.len());
-        // SAFETY: 1 and 2 by the parameters' types; 3 by the assertion.
+        // SAFETY: 1 to 3 by the parameters' types.
         unsafe { (self.open)(monitor, users, roles, words, n_words, rows, n_rows) }
     }
 
     /// One event.
-    ///
-    /// # Panics
-    /// If the mark of what is lent is neither 0 nor 1.
     pub fn event(&self, monitor: &mut Monitor, word: u32, workspace: &mut [u32]) -> u8 {
-        assert_mark(monitor);
         let (workspace, n_workspace) = (workspace.as_mut_ptr(), workspace.len());
-        // SAFETY: 1 and 2 by the parameters' types; 3 by the assertion.
+        // SAFETY: 1 to 3 by the parameters' types.
         unsafe { (self.event)(monitor, word, workspace, n_workspace) }
     }
 
     /// The status.
-    ///
-    /// # Panics
-    /// If the mark of what is lent is neither 0 nor 1.
     pub fn status(&self, monitor: &Monitor, workspace: &mut [u32]) -> u8 {
-        assert_mark(monitor);
         let (workspace, n_workspace) = (workspace.as_mut_ptr(), workspace.len());
-        // SAFETY: 1 and 2 by the parameters' types; 3 by the assertion.
+        // SAFETY: 1 to 3 by the parameters' types.
         unsafe { (self.status)(monitor, workspace, n_workspace) }
     }
 
@@ -189,10 +177,4 @@ impl Calls {
         // SAFETY: nothing is lent.
         unsafe { (self.layout)() }
     }
-}
-
-/// What the library asks of a monitor before it reads one.
-fn assert_mark(monitor: &Monitor) {
-    let mark = monitor.closed;
-    assert!(mark <= 1, "the closed mark is {mark}, which is neither 0 nor 1");
 }

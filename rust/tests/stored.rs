@@ -4,7 +4,7 @@ mod common;
 
 use common::{open_l, step, EVENTS_L, POLICY_F};
 use oskhrein::raw::Calls;
-use oskhrein::{Event, Monitor, Refusal, Workspace, LAYOUT};
+use oskhrein::{Event, Monitor, Refusal, Status, Workspace, LAYOUT};
 
 /// The bytes of listing L's monitor with its first two actions.
 fn stored() -> [u8; Monitor::BYTES] {
@@ -19,7 +19,7 @@ fn stored() -> [u8; Monitor::BYTES] {
 fn is_malformed(place: usize, byte: u8) -> bool {
     let mut bytes = stored();
     bytes[place] = byte;
-    let mut monitor = Monitor::from_bytes(&bytes).expect("its mark is 0 or 1");
+    let mut monitor = Monitor::from_bytes(&bytes);
     let mut workspace = Workspace::new();
     let status = monitor.status(&mut workspace);
     let event = monitor.event(Event::Grant { user: 0, role: 1 }, &mut workspace);
@@ -32,7 +32,7 @@ fn reloaded_at_every_step() {
     let (mut kept, mut workspace) = (open_l(), Workspace::new());
     let mut reloaded = kept.clone();
     for word in EVENTS_L {
-        reloaded = Monitor::from_bytes(&reloaded.to_bytes()).expect("it was stored");
+        reloaded = Monitor::from_bytes(&reloaded.to_bytes());
         let answers = [&mut kept, &mut reloaded].map(|i| step(i, word, &mut workspace));
         assert_eq!(answers[0], answers[1]);
         assert_eq!(kept, reloaded);
@@ -43,17 +43,17 @@ fn reloaded_at_every_step() {
 fn bytes_are_in_the_layout_of_c() {
     let bytes = stored();
     assert_eq!(bytes.len(), 260);
+    assert_eq!(bytes[..6], [2, 0, 1, 0, 0, 0]);
+    assert_eq!(bytes[6..32], [0; 26]);
+    assert_eq!(bytes[32..36], [3, 0, 3, 0]);
     let words: Vec<u8> = POLICY_F.iter().flat_map(|word| word.to_le_bytes()).collect();
-    assert_eq!(bytes[..40], words);
-    assert_eq!(bytes[40..124], [0; 84]);
-    assert_eq!(bytes[124..128], [10, 3, 3, 0]);
-    assert_eq!(bytes[128..134], [2, 0, 1, 0, 0, 0]);
-    assert_eq!(bytes[134..160], [0; 26]);
+    assert_eq!(bytes[36..76], words);
+    assert_eq!(bytes[76..160], [0; 84]);
     // user 0 met everyone, the term at word 9; user 1 also role 0, at words 2, 6 and 7
     assert_eq!(bytes[160..168], [0, 0, 0, 0, 0, 1 << 1, 0, 0]);
     assert_eq!(bytes[168..176], [1, 0, 0, 0, 1 << 2 | 1 << 6 | 1 << 7, 1 << 1, 0, 0]);
     assert_eq!(bytes[176..256], [0; 80]);
-    assert_eq!(bytes[256..], [2, 0, 0, 0]);
+    assert_eq!(bytes[256..], [10, 0, 2, 0]);
 }
 
 #[test]
@@ -68,25 +68,30 @@ fn the_library_has_this_version_and_layout() {
 
 #[test]
 fn every_part_of_fifteen() {
-    assert!(!is_malformed(124, 10), "as it was stored");
+    assert!(!is_malformed(256, 10), "as it was stored");
     let wrong = [
-        ("policy", 3, 10),
-        ("an unused policy word", 123, 1),
-        ("word count", 124, 9),
-        ("word count above 31", 124, 200),
-        ("users", 125, 17),
-        ("users above the array", 125, 255),
-        ("roles", 126, 0),
-        ("a role that is not declared", 128, 8),
-        ("an unused row", 159, 1),
+        ("a role that is not declared", 0, 8),
+        ("an unused row", 31, 1),
+        ("users", 32, 17),
+        ("users above the array", 33, 1),
+        ("roles", 34, 0),
+        ("roles, high byte", 35, 255),
+        ("policy", 39, 10),
+        ("an unused policy word", 159, 1),
         ("a user that is not declared", 160, 3),
+        ("a user of more than a byte", 161, 1),
+        ("a user of more than two bytes", 163, 128),
         ("a bit at no unit term", 164, 1),
         ("a bit past the policy", 167, 128),
         ("an unused place's user", 176, 1),
+        ("an unused place's user, high byte", 251, 1),
         ("an unused place's bits", 180, 4),
-        ("actions above twelve", 256, 13),
-        ("actions above the array", 256, 255),
-        ("fewer actions", 256, 1),
+        ("word count", 256, 9),
+        ("word count above 31", 256, 200),
+        ("word count, high byte", 257, 1),
+        ("actions above twelve", 258, 13),
+        ("actions above the array", 258, 255),
+        ("fewer actions", 258, 1),
     ];
     for (what, place, byte) in wrong {
         assert!(is_malformed(place, byte), "{what}");
@@ -94,24 +99,25 @@ fn every_part_of_fifteen() {
 }
 
 #[test]
-fn padding_is_not_looked_at() {
-    let mut bytes = stored();
-    for place in [127, 161, 162, 163, 249, 258, 259] {
-        bytes[place] = 0xff;
-    }
-    let monitor = Monitor::from_bytes(&bytes).expect("its mark is 0");
-    assert_eq!(monitor.to_bytes(), stored());
+fn every_byte_is_kept() {
+    let bytes: [u8; Monitor::BYTES] = std::array::from_fn(|place| (place * 7 + 3) as u8);
+    assert_eq!(Monitor::from_bytes(&bytes).to_bytes(), bytes);
 }
 
 #[test]
-fn a_mark_that_is_neither_0_nor_1_is_refused() {
-    let mut bytes = stored();
+fn every_mark_but_0_is_closed() {
+    let mut workspace = Workspace::new();
     for mark in 0..=u8::MAX {
-        bytes[257] = mark;
-        assert_eq!(Monitor::from_bytes(&bytes).is_ok(), mark <= 1, "{mark}");
+        let mut bytes = stored();
+        bytes[259] = mark;
+        let mut monitor = Monitor::from_bytes(&bytes);
+        assert_eq!(monitor.is_closed(), mark != 0);
+        assert_eq!(monitor.status(&mut workspace) == Ok(Status::Closed), mark != 0);
+        let event = monitor.event(Event::Close, &mut workspace);
+        let refused = if mark == 0 { Refusal::NotSatisfied } else { Refusal::Closed };
+        assert_eq!(event, Err(refused));
+        assert_eq!(monitor.to_bytes(), bytes);
     }
-    let error = Monitor::from_bytes(&bytes).expect_err("the mark is 255");
-    assert_eq!(error.to_string(), "the closed mark is 255, neither 0 nor 1");
 }
 
 #[test]
@@ -124,7 +130,7 @@ fn any_bytes_are_answered() {
             state = state.wrapping_mul(1664525).wrapping_add(1013904223);
             bytes[(state >> 8) as usize % Monitor::BYTES] = (state >> 24) as u8;
         }
-        let Ok(mut monitor) = Monitor::from_bytes(&bytes) else { continue };
+        let mut monitor = Monitor::from_bytes(&bytes);
         let parts = (monitor.policy().len(), monitor.user_roles().len());
         assert!(parts.0 <= 31 && parts.1 <= 16 && monitor.actions().len() <= 12);
         let status = monitor.status(&mut workspace);

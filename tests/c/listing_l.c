@@ -48,17 +48,10 @@ static int workspace_is(uint32_t value)
     return 1;
 }
 
+/* A monitor has no padding, so that its bytes are all of it. */
 static int same(const struct oskhrein_monitor *a, const struct oskhrein_monitor *b)
 {
-    if (memcmp(a->policy, b->policy, sizeof a->policy) != 0 || memcmp(a->user_roles, b->user_roles, sizeof a->user_roles) != 0) {
-        return 0;
-    }
-    for (size_t i = 0; i < OSKHREIN_MAX_ACTIONS; i++) {
-        if (a->actions[i].user != b->actions[i].user || a->actions[i].met != b->actions[i].met) {
-            return 0;
-        }
-    }
-    return a->words == b->words && a->users == b->users && a->roles == b->roles && a->taken == b->taken && a->closed == b->closed;
+    return memcmp(a, b, sizeof *a) == 0;
 }
 
 static uint8_t open_l(struct oskhrein_monitor *monitor)
@@ -70,17 +63,20 @@ static void version_and_layout(void)
 {
     CHECK(oskhrein_version() == OSKHREIN_VERSION);
     CHECK(oskhrein_layout() == OSKHREIN_LAYOUT);
+    CHECK(sizeof(struct oskhrein_configuration) == 36);
+    CHECK(offsetof(struct oskhrein_configuration, user_roles) == 0);
+    CHECK(offsetof(struct oskhrein_configuration, users) == 32);
+    CHECK(offsetof(struct oskhrein_configuration, roles) == 34);
     CHECK(sizeof(struct oskhrein_action) == 8);
     CHECK(offsetof(struct oskhrein_action, met) == 4);
+    CHECK(sizeof(struct oskhrein_instance) == 224);
+    CHECK(offsetof(struct oskhrein_instance, policy) == 0);
+    CHECK(offsetof(struct oskhrein_instance, actions) == 124);
+    CHECK(offsetof(struct oskhrein_instance, words) == 220);
+    CHECK(offsetof(struct oskhrein_instance, taken) == 222);
+    CHECK(offsetof(struct oskhrein_instance, closed) == 223);
     CHECK(sizeof(struct oskhrein_monitor) == 260);
-    CHECK(offsetof(struct oskhrein_monitor, policy) == 0);
-    CHECK(offsetof(struct oskhrein_monitor, words) == 124);
-    CHECK(offsetof(struct oskhrein_monitor, users) == 125);
-    CHECK(offsetof(struct oskhrein_monitor, roles) == 126);
-    CHECK(offsetof(struct oskhrein_monitor, user_roles) == 128);
-    CHECK(offsetof(struct oskhrein_monitor, actions) == 160);
-    CHECK(offsetof(struct oskhrein_monitor, taken) == 256);
-    CHECK(offsetof(struct oskhrein_monitor, closed) == 257);
+    CHECK(offsetof(struct oskhrein_monitor, instance) == 36);
 }
 
 /* Words as the functions of the header make them. */
@@ -110,12 +106,12 @@ static void opening(void)
     struct oskhrein_monitor want = blank;
     struct oskhrein_monitor monitor;
 
-    memcpy(want.policy, POLICY_F, sizeof POLICY_F);
-    memcpy(want.user_roles, ROWS_L, sizeof ROWS_L);
-    want.words = WORDS_F;
-    want.users = 3;
-    want.roles = 3;
-    memset(&monitor, 1, sizeof monitor);
+    memcpy(want.configuration.user_roles, ROWS_L, sizeof ROWS_L);
+    want.configuration.users = 3;
+    want.configuration.roles = 3;
+    memcpy(want.instance.policy, POLICY_F, sizeof POLICY_F);
+    want.instance.words = WORDS_F;
+    memset(&monitor, 0xa5, sizeof monitor);
     CHECK(open_l(&monitor) == OSKHREIN_ACCEPTED);
     CHECK(same(&monitor, &want));
 
@@ -147,7 +143,7 @@ static void listing_l(void)
         snprintf(line, sizeof line, "%u %u %c", (unsigned)i + 1, code, (char)letter);
         check(strcmp(line, want[i]) == 0, want[i]);
     }
-    snprintf(line, sizeof line, "taken %u", (unsigned)monitor.taken);
+    snprintf(line, sizeof line, "taken %u", (unsigned)monitor.instance.taken);
     check(strcmp(line, "taken 4") == 0, "taken 4");
     check(workspace[OSKHREIN_WORKSPACE_WORDS] == GUARD, "words from 8,192 on stay");
     /* All four taken actions satisfy the policy, none of them satisfies it alone. */
@@ -193,7 +189,17 @@ static void refusals(void)
     check(oskhrein_event(&monitor, 0x01000201, workspace, OSKHREIN_WORKSPACE_WORDS) == OSKHREIN_NOT_POSSIBLE, "P5");
     CHECK(same(&monitor, &before) && workspace[OSKHREIN_WORKSPACE_WORDS] == GUARD && !workspace_is(GUARD));
 
-    monitor.taken = 13;
+    /* Every mark but 0 is closed, and any bytes are answered. */
+    monitor.instance.closed = 2;
+    before = monitor;
+    CHECK(oskhrein_status(&monitor, workspace, OSKHREIN_WORKSPACE_WORDS) == OSKHREIN_STATUS_CLOSED);
+    CHECK(oskhrein_event(&monitor, 0x01000001, workspace, OSKHREIN_WORKSPACE_WORDS) == OSKHREIN_CLOSED);
+    CHECK(same(&monitor, &before));
+    memset(&monitor, 0xa5, sizeof monitor);
+    CHECK(oskhrein_status(&monitor, workspace, OSKHREIN_WORKSPACE_WORDS) == OSKHREIN_MONITOR);
+
+    CHECK(open_l(&monitor) == OSKHREIN_ACCEPTED);
+    monitor.instance.taken = 13;
     before = monitor;
     fill_workspace(GUARD);
     CHECK(oskhrein_event(&monitor, 0x01000001, workspace, OSKHREIN_WORKSPACE_WORDS) == OSKHREIN_MONITOR);

@@ -7,4 +7,4 @@ version = (0 * 256 + 1) * 256 + 0
 
 -- the number of the layout of what is lent, another one whenever a field of it comes, goes, moves or means something else
 abbrev pub layout : ℕ
-layout = 1
+layout = 2

@@ -17,7 +17,7 @@ use monitor::Verdict;
 const VERSION: u32 = 0x000100;
 
 // The number of the layout of what is lent: another one whenever a field of it comes, goes, moves or means something else.
-const LAYOUT: u32 = 1;
+const LAYOUT: u32 = 2;
 
 // A status as one byte.
 fn status_byte(status: Status) -> u8

@@ -4,7 +4,7 @@
 use std::ffi::{c_char, c_int, c_void, CString};
 use std::ptr::NonNull;
 
-use oskhrein::raw::{Action, Calls, Monitor};
+use oskhrein::raw::{Action, Calls, Configuration, Instance, Monitor};
 use reference::raw::RawInstance;
 
 extern "C" {
@@ -41,14 +41,17 @@ fn loaded(path: &str) -> Result<Calls, String> {
 
 /// A raw instance of the reference as C lays it out.
 pub fn laid_out(raw: &RawInstance) -> Monitor {
-    Monitor {
-        policy: raw.policy,
-        words: raw.length as u8,
-        users: raw.users as u8,
-        roles: raw.roles as u8,
+    let configuration = Configuration {
         user_roles: raw.user_roles,
-        actions: raw.actions.map(|action| Action { user: action.user as u8, met: action.met }),
+        users: raw.users as u16,
+        roles: raw.roles as u16,
+    };
+    let instance = Instance {
+        policy: raw.policy,
+        actions: raw.actions.map(|action| Action { user: action.user as u32, met: action.met }),
+        words: raw.length as u16,
         taken: raw.count as u8,
         closed: raw.closed,
-    }
+    };
+    Monitor { configuration, instance }
 }

@@ -12,11 +12,11 @@ use crate::workspace;
 
 /// How many bits the compared program's struct has for the numbers of users, roles and words. Here
 /// every number has room; inputs keep to what can be lent.
-pub const COUNT_BITS: usize = 8;
+pub const COUNT_BITS: usize = 16;
 /// How many bits it has for the user of an action.
-pub const USER_BITS: usize = 8;
+pub const USER_BITS: usize = 32;
 /// The marks of a closed instance that may be lent to it.
-pub const CLOSED_MARKS: [u8; 1] = [1];
+pub const CLOSED_MARKS: [u8; 4] = [1, 2, 128, 255];
 
 /// A taken action with its noted bits: bit i says whether the user met the unit term at word i.
 #[derive(Clone, Copy, Debug, PartialEq, Eq, Hash)]

@@ -1,6 +1,6 @@
 //! The linked library, as far as this tool uses it. No other module names it.
 
-use oskhrein::{Instance as Monitor, Refusal, Workspace};
+use oskhrein::{Monitor, Refusal, Workspace};
 
 use crate::file::Case;
 

@@ -1,6 +1,6 @@
 //! Opening a monitor: the number, and the whole monitor, which is blank after a refusal.
 
-use oskhrein::raw::{Action, Calls, Monitor};
+use oskhrein::raw::{Calls, Monitor};
 use reference::casefile::{read_case, Case};
 use reference::generate::{cases, edges, Random};
 use reference::raw::RawInstance;
@@ -12,16 +12,7 @@ use crate::report::answer_text;
 
 /// What the caller's monitor holds before it is opened: nothing that an opening writes.
 fn unopened() -> Monitor {
-    Monitor {
-        policy: [0xa5a5_a5a5; 31],
-        words: 0xa5,
-        users: 0xa6,
-        roles: 0xa7,
-        user_roles: [0xa5a5; 16],
-        actions: [Action { user: 0xa5, met: 0xa5a5_a5a5 }; 12],
-        taken: 0xa5,
-        closed: 1,
-    }
+    Monitor::from_bytes(&[0xa5; Monitor::BYTES])
 }
 
 /// Counts, words and rows that have little to do with each other.
