@@ -21,7 +21,7 @@ use Rattle.soda.proofs.Words.{op-high, same-kind, encode-length, words-trans, c
 use Rattle.soda.proofs.Normal.{by-operands, operands-some, parts, parts-bin}
 use Rattle.soda.proofs.EqualForms.{normal-keeps, normal-is-normal}
 use Rattle.policy.specs.Words.{kind, sides}
-use Rattle.normal.specs.Merging.{span, lead, operandOf, Operand, Chain, last, more}
+use Rattle.normal.specs.Private.{span, lead, operandOf, Operand, Chain, last, more}
 use Rattle.policy.proofs.Grammar.{op-sides}
 use Rattle.policy.proofs.Encoding.{kind-word}
 

@@ -16,7 +16,7 @@ use Rattle.soda.proofs.Lists.{from-drop, from-length}
 use Rattle.soda.specs.Lists.{from, merge}
 use Rattle.soda.specs.Terms.{Term}
 use Rattle.soda.specs.Words.{wordsLe, termLe}
-use Rattle.normal.specs.Merging.{span, lead, operandOf, Merging, Merged}
+use Rattle.normal.specs.Private.{span, lead, operandOf, Merging, Merged}
 use Rattle.normal.proofs.Chains.{span-within, lead-most, operand-within, head, chain-long, goes-on, ends, chain-append, put, merge-left, merge-right}
 
 -- ── lists ──

@@ -18,7 +18,7 @@ use Rattle.soda.proofs.Words.{encode-length}
 use Rattle.soda.proofs.Normal.{parts, nf-merge}
 use Rattle.soda.proofs.EqualForms.{normal-keeps}
 use Rattle.policy.specs.Words.{kind, sides}
-use Rattle.normal.specs.Merging.{Merging, Merged, Spelt, Written}
+use Rattle.normal.specs.Private.{Merging, Merged, Spelt, Written}
 use Rattle.policy.proofs.Grammar.{op-sides}
 use Rattle.policy.proofs.Encoding.{kind-word}
 use Rattle.normal.proofs.Chains.{normal-words, words-chain}

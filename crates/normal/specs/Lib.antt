@@ -1,2 +1,2 @@
 pub mod NormalForms
-pub mod Merging
+pub mod Private

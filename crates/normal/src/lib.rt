@@ -6,7 +6,7 @@ ghost use lib.Seq.{paste};
 ghost use Rattle.soda.specs.Words.{wordsLe};
 ghost use Rattle.policy.specs.Words.{kind, sides};
 ghost use Rattle.normal.specs.NormalForms.{normalCode, normalOut};
-ghost use Rattle.normal.specs.Merging.{span, operandOf, Spelt, Written, Merging, Merged};
+ghost use Rattle.normal.specs.Private.{span, operandOf, Spelt, Written, Merging, Merged};
 use policy::PolicyRead;
 use policy::codes;
 

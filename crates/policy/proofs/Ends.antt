@@ -14,7 +14,7 @@ use Rattle.soda.specs.Terms.{Op, Term, bin, size}
 use Rattle.soda.proofs.Terms.{size-pos}
 use Rattle.policy.specs.Words.{kind, sides}
 use Rattle.policy.specs.Shapes.{rightSides}
-use Rattle.policy.specs.Scans.{RightsOf}
+use Rattle.policy.specs.Private.{RightsOf}
 use Rattle.policy.proofs.Grammar.{op-sides, Begins, begins1, begins2, begins3, begins4, begins5, beginsOp, length-begins, drop-begins, begins-whole}
 
 zeros : (n i : ℕ) → getD {A = ℕ} (replicate n 0) i 0 ≡ 0

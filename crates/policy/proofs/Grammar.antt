@@ -15,7 +15,7 @@ use Rattle.soda.specs.Terms.{Op, either, both, together, apart, Term, everyone,
 use Rattle.soda.specs.Words.{opKind}
 use Rattle.policy.specs.Words.{Kind, bad, everyoneK, roleK, setK, notK, plusK, opK, kind, operand, sides, kindOf, head, tail, lift1, lift2, push, row, first, single, decode}
 use Rattle.policy.specs.Accepted.{OpSides}
-use Rattle.policy.specs.Scans.{known}
+use Rattle.policy.specs.Private.{known}
 
 -- ── kinds ──
 -- 01's table: a kind and its number of sides

@@ -16,8 +16,8 @@ use Rattle.soda.specs.Words.{opKind}
 use Rattle.soda.proofs.Words.{tag, op-high, same-kind}
 use Rattle.policy.specs.Words.{kind, decode}
 use Rattle.policy.specs.Shapes.{isPlus, isOp}
-use Rattle.policy.specs.Scans.{putOf, ofKind, kindsOf, withoutOf}
-use Rattle.policy.specs.declared.KindMasks.{KindMasks}
+use Rattle.policy.specs.Private.{putOf, ofKind, kindsOf, withoutOf}
+use Rattle.policy.specs.declared.shapes.KindMasks.{KindMasks}
 use Rattle.policy.proofs.Masks.{put-is, without-is}
 use Rattle.policy.proofs.Grammar.{Begins, begins1, begins2, begins3, begins4, begins5, beginsOp, begins-whole}
 

@@ -10,7 +10,7 @@ use lib.Bits.{bitAnd, bitOr, or-shifted, and-block}
 use lib.ListN.{length, drop}
 use lib.Pow.{shl-exact, shr-shr}
 use Rattle.soda.specs.Bits.{number}
-use Rattle.policy.specs.Scans.{putOf, withoutOf}
+use Rattle.policy.specs.Private.{putOf, withoutOf}
 
 digit-lt : (b : Bool) → cond b 1 0 < 2
 digit-lt true = omega arith

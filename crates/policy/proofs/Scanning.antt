@@ -17,7 +17,7 @@ use Rattle.soda.proofs.Terms.{size-pos}
 use Rattle.policy.specs.Words.{kind, operand, sides, kindOf, head, tail, push, row, first, decode}
 use Rattle.policy.specs.Reading.{countOk, isTerm}
 use Rattle.policy.specs.Accepted.{CountsInRange, LengthInRange}
-use Rattle.policy.specs.Scans.{known, extent}
+use Rattle.policy.specs.Private.{known, sizeOf}
 use Rattle.policy.proofs.Grammar.{Row, row1, row2, row3, row4, row5, rowOp, known-row, unknown-bad, push-op, begins, row-begins, length-begins, decode-missing, decode-first}
 
 -- ── the tests of counts and length ──
@@ -80,30 +80,30 @@ behind ws φ e =
     ∙ ap first (ap (drop (size φ)) (from-drop 1 ws) ∙ drop-drop (size φ) 1 ws ∙ sym (from-drop (1 + size φ) ws))
 
 -- ── the answers ──
-found : (x : Option Term) → (extent x ≡ 0 → ⊥) → (φ : Term) × (x ≡ some φ)
+found : (x : Option Term) → (sizeOf x ≡ 0 → ⊥) → (φ : Term) × (x ≡ some φ)
 found none n = absurd (n refl)
 found (some φ) n = (φ, refl)
 
-missing : (x : Option Term) → extent x ≡ 0 → x ≡ none
+missing : (x : Option Term) → sizeOf x ≡ 0 → x ≡ none
 missing none e = refl
 missing (some φ) e = absurd (omega (arith, size-pos φ))
 
-pub first-within : (ws : List ℕ) → extent (first ws) ≤ length ws
+pub first-within : (ws : List ℕ) → sizeOf (first ws) ≤ length ws
 first-within ws = go (first ws) refl
   where
-    go : (x : Option Term) → first ws ≡ x → extent x ≤ length ws
+    go : (x : Option Term) → first ws ≡ x → sizeOf x ≤ length ws
     go none e = omega arith
     go (some φ) e = omega (arith, length-begins (begins ws φ e))
 
 -- exactly one term, from the first
-pub whole : (ws : List ℕ) → 0 < length ws → isTerm (decode ws) ≡ eqb (extent (first ws)) (length ws)
+pub whole : (ws : List ℕ) → 0 < length ws → isTerm (decode ws) ≡ eqb (sizeOf (first ws)) (length ws)
 whole ws h = go (first ws) refl
   where
     told : (b : Bool) (φ : Term) → isTerm (cond b (some φ) none) ≡ b
     told true φ = refl
     told false φ = refl
 
-    go : (x : Option Term) → first ws ≡ x → isTerm (decode ws) ≡ eqb (extent x) (length ws)
+    go : (x : Option Term) → first ws ≡ x → isTerm (decode ws) ≡ eqb (sizeOf x) (length ws)
     go none e = rw (decode-missing ws e) (sym (ne-eqb 0 (length ws) (λ z. omega arith)))
     go (some φ) e = rw (decode-first ws φ e) (told (eqb (size φ) (length ws)) φ)
 
@@ -112,28 +112,28 @@ module _ (ws : List ℕ) {k n : ℕ} (W : Word ws k n) where
   abbrev rest : List (Option Term)
   rest = row (from 1 ws)
 
-  pub scan-leaf : n ≡ 0 → 1 ≡ extent (first ws)
+  pub scan-leaf : n ≡ 0 → 1 ≡ sizeOf (first ws)
   scan-leaf z = rw (W .is) (go (rw z at (W .kind-row)))
     where
-      go : {j : ℕ} → Row j 0 → 1 ≡ extent (head (push (kindOf j) (operand (getD ws 0 0)) rest))
+      go : {j : ℕ} → Row j 0 → 1 ≡ sizeOf (head (push (kindOf j) (operand (getD ws 0 0)) rest))
       go row1 = refl
       go row2 = refl
       go row3 = refl
 
-  pub scan-missing : (n ≡ 0 → ⊥) → extent (first (from 1 ws)) ≡ 0 → 0 ≡ extent (first ws)
+  pub scan-missing : (n ≡ 0 → ⊥) → sizeOf (first (from 1 ws)) ≡ 0 → 0 ≡ sizeOf (first ws)
   scan-missing z e = rw (W .is, missing-side (W .kind-row) z (operand (getD ws 0 0)) rest (missing (first (from 1 ws)) e))
 
-  module _ (a : ℕ) (A : a ≡ extent (first (from 1 ws))) (is : a ≡ 0 → ⊥) where
+  module _ (a : ℕ) (A : a ≡ sizeOf (first (from 1 ws))) (is : a ≡ 0 → ⊥) where
     side : (φ : Term) × (first (from 1 ws) ≡ some φ)
     side = found (first (from 1 ws)) (λ e. is (A ∙ e))
 
     size-is : a ≡ size (side .0)
-    size-is = A ∙ ap extent (side .1)
+    size-is = A ∙ ap sizeOf (side .1)
 
-    pub scan-one : n ≡ 1 → 1 + a ≡ extent (first ws)
+    pub scan-one : n ≡ 1 → 1 + a ≡ sizeOf (first ws)
     scan-one z = rw (W .is, size-is) (go (rw z at (W .kind-row)))
       where
-        go : {j : ℕ} → Row j 1 → 1 + size (side .0) ≡ extent (head (push (kindOf j) (operand (getD ws 0 0)) rest))
+        go : {j : ℕ} → Row j 1 → 1 + size (side .0) ≡ sizeOf (head (push (kindOf j) (operand (getD ws 0 0)) rest))
         go row4 = rw (side .1)
         go row5 = rw (side .1)
 
@@ -144,16 +144,16 @@ module _ (ws : List ℕ) {k n : ℕ} (W : Word ws k n) where
       both-sides : Row k 2
       both-sides = two-sides (W .kind-row) z o
 
-      pub scan-missing-second : extent (first (from (1 + a) ws)) ≡ 0 → 0 ≡ extent (first ws)
+      pub scan-missing-second : sizeOf (first (from (1 + a) ws)) ≡ 0 → 0 ≡ sizeOf (first ws)
       scan-missing-second e =
           rw (W .is, missing-second both-sides (operand (getD ws 0 0)) rest (side .0) (side .1) (second ∙ missing (first (from (1 + a) ws)) e))
 
-      pub scan-two : (b : ℕ) → b ≡ extent (first (from (1 + a) ws)) → (b ≡ 0 → ⊥) → 1 + a + b ≡ extent (first ws)
+      pub scan-two : (b : ℕ) → b ≡ sizeOf (first (from (1 + a) ws)) → (b ≡ 0 → ⊥) → 1 + a + b ≡ sizeOf (first ws)
       scan-two b B t = rw (W .is) (go both-sides)
         where
           other : (ψ : Term) × (first (from (1 + a) ws) ≡ some ψ)
           other = found (first (from (1 + a) ws)) (λ e. t (B ∙ e))
 
-          go : {j : ℕ} → Row j 2 → 1 + a + b ≡ extent (head (push (kindOf j) (operand (getD ws 0 0)) rest))
+          go : {j : ℕ} → Row j 2 → 1 + a + b ≡ sizeOf (head (push (kindOf j) (operand (getD ws 0 0)) rest))
           go (rowOp op) =
-              rw (push-op op, side .1, second ∙ other .1) (omega (arith, size-is, B ∙ ap extent (other .1)))
+              rw (push-op op, side .1, second ∙ other .1) (omega (arith, size-is, B ∙ ap sizeOf (other .1)))

@@ -17,9 +17,9 @@ use Rattle.soda.specs.Words.{opKind}
 use Rattle.soda.proofs.Bits.{bit-number}
 use Rattle.soda.proofs.Terms.{size-pos, subterms-length}
 use Rattle.policy.specs.Words.{Kind, bad, everyoneK, roleK, setK, notK, plusK, opK, kind, operand, sides, kindOf, lift2, push, row, single, decode}
-use Rattle.policy.specs.Scans.{known, meetsSides, putOf, placedOf, overOf, besideOf, stepOf, judgedIn}
-use Rattle.policy.specs.declared.Stack.{Stack}
-use Rattle.policy.specs.declared.Judged.{Judged}
+use Rattle.policy.specs.Private.{known, meetsSides, putOf, placedOf, overOf, besideOf, stepOf, analysisIn}
+use Rattle.policy.specs.declared.terms.Stack.{Stack}
+use Rattle.policy.specs.declared.terms.Analysis.{Analysis}
 use Rattle.policy.proofs.Masks.{put-is, taken}
 use Rattle.policy.proofs.Grammar.{Row, row1, row2, row3, row4, row5, rowOp, known-row, unknown-bad, push-op}
 
@@ -239,13 +239,13 @@ module _ (u h : ℕ) (ws : List ℕ) where
       go (φ ∷ ψ ∷ ts) n = refl
 
   pub one : {s : Stack} → Read 0 s → s .terms ≡ 1
-      → _≡_ {A = Judged} (record { formed = s .formed; units = s .units; noted = s .noted }) (judgedIn u h (decode ws))
+      → _≡_ {A = Analysis} (record { formed = s .formed; units = s .units; noted = s .noted }) (analysisIn u h (decode ws))
   one R z =
       rw (R .kept) (go (R .terms) (sym (count R) ∙ z))
-      ∙ sym (ap (λ (ts : List (Option Term)). judgedIn u h (single ts)) (R .are))
+      ∙ sym (ap (λ (ts : List (Option Term)). analysisIn u h (single ts)) (R .are))
     where
       go : (ts : List Term) → length ts ≡ 1 → let s = stackOf u h ts in
-          _≡_ {A = Judged} (record { formed = s .formed; units = s .units; noted = s .noted }) (judgedIn u h (single (map some ts)))
+          _≡_ {A = Analysis} (record { formed = s .formed; units = s .units; noted = s .noted }) (analysisIn u h (single (map some ts)))
       go [] e = absurd (omega arith)
       go (φ ∷ []) e = rw (append-nil (subterms φ), and-true (wellFormed φ))
       go (φ ∷ ψ ∷ ts) e = absurd (omega arith)

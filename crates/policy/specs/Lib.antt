@@ -4,6 +4,6 @@ pub mod Refusals
 pub mod Words
 pub mod Reading
 pub mod Shapes
-pub mod Scans
+pub mod Private
 -- What is proved of them.
 pub mod Accepted

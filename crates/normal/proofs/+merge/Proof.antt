@@ -9,7 +9,7 @@ use borrow.Author.Needs.{needs}
 use borrow.Fn.Kinds.{In}
 use borrow.Fn.PlainCycle.{Measures, is, falls, and}
 use Rattle.soda.proofs.Lists.{from-length}
-use Rattle.normal.specs.Merging.{operandOf, Merging}
+use Rattle.normal.specs.Private.{operandOf, Merging}
 use Rattle.normal.proofs.Merging.{Room, room, left-room, left-more, left-on, left-again, left-last, right-room, right-on, right-again, right-last}
 use Rattle.normal.proofs.merge.Reads as merge
 use Rattle.normal.proofs.merge.Kinds as merge-kinds
@@ -100,7 +100,7 @@ module _ (t : ℕ) where
   is-x c = c .first-operand .ensures
 
   slice-write-out : lts.Need-slice-write-out calls at merge.Post
-  slice-write-out c = omega (arith, all (c .before .before .before .before) .gap)
+  slice-write-out c = omega (arith, all (start c) .gap)
 
   mul-words-le : lts.Need-mul-words-le calls at merge.Post
   mul-words-le c = omega (arith, all (start c))
@@ -117,9 +117,16 @@ module _ (t : ℕ) where
   words-le-requires : lts.Need-words-le-requires calls at merge.Post
   words-le-requires c κs = search needs
 
+  -- it comes first, or not
+  abbrev smaller : lts.Then1 calls at merge.Post → Found
+  smaller c = c .before .before .before .before
+
+  abbrev larger : lts.Else1 calls at merge.Post → Found
+  larger c = c .before .before .before .before
+
   copy-requires : lts.Need-copy-requires calls at merge.Post
   copy-requires c κs =
-      let f = c .before .before .before .before .before in
+      let f = smaller (c .before) in
       let s = start f in
       omega (arith, written s, all s, left-room (s .args .op) (a s) (out s) (is-x f) (given s))
 
@@ -128,7 +135,7 @@ module _ (t : ℕ) where
   Copied = lts.After-copy calls at merge.Post
 
   abbrev found : Copied → Found
-  found c = c .before .before .before .before .before .before
+  found c = smaller (c .before .before)
 
   abbrev copied : Copied → List ℕ
   copied c = c .copy .last .1 .0
@@ -139,14 +146,24 @@ module _ (t : ℕ) where
   shared-slice-read-if2 : lts.Need-shared-slice-read-if2 calls at merge.Post
   shared-slice-read-if2 c = all (start (found (c .before .before .before))) .some
 
-  more : (c : lts.Then2 calls at merge.Post) → let f = found (c .before .before .before .before) in 1 + length (x f) ≤ length (a (start f))
+  -- its chain goes on, or not; and the call for the rest
+  abbrev on : lts.Then2 calls at merge.Post → Copied
+  on c = c .before .before .before .before
+
+  abbrev off : lts.Else2 calls at merge.Post → Copied
+  off c = c .before .before .before .before
+
+  abbrev again : lts.After-merge calls at merge.Post → lts.Then2 calls at merge.Post
+  again c = c .before .before .before
+
+  more : (c : lts.Then2 calls at merge.Post) → let f = found (on c) in 1 + length (x f) ≤ length (a (start f))
   more c =
-      let f = found (c .before .before .before .before) in
+      let f = found (on c) in
       let s = start f in
       left-more (s .args .op) (a s) (out s) (is-x f) (given s) (c .if2 .taken)
 
   mul-merge : lts.Need-mul-merge calls at merge.Post
-  mul-merge c = omega (arith, more c, all (start (found (c .before .before .before .before))))
+  mul-merge c = omega (arith, more c, all (start (found (on c))))
 
   sub-merge : lts.Need-sub-merge calls at merge.Post
   sub-merge c = more c
@@ -162,12 +179,12 @@ module _ (t : ℕ) where
 
   sub-merge-2 : lts.Need-sub-merge-2 calls at merge.Post
   sub-merge-2 c =
-      let d = c .before .before .before .before .before in
+      let d = on (c .before) in
       omega (arith, more (c .before), copied-length d, all (start (found d)))
 
   part-merge-start-2 : lts.Need-part-merge-start-2 calls at merge.Post
   part-merge-start-2 c =
-      let d = c .before .before .before .before .before in
+      let d = on (c .before) in
       omega (arith, more (c .before), copied-length d, all (start (found d)))
 
   part-merge-end-2 : lts.Need-part-merge-end-2 calls at merge.Post
@@ -175,7 +192,7 @@ module _ (t : ℕ) where
 
   merge-requires : lts.Need-merge-requires calls at merge.Post
   merge-requires c κs =
-      let d = c .before .before .before .before .before .before in
+      let d = on (c .before .before) in
       let f = found d in
       let s = start f in (
         omega (arith, from-length (1 + length (x f)) (copied d), copied-length d, all s, s .pre .0),
@@ -183,12 +200,12 @@ module _ (t : ℕ) where
       )
 
   same-length : lts.Need-same-length calls at merge.Post
-  same-length c = c .before .out3 .given .1 ∙ copied-length (c .before .before .before .before .before .before .before .before .before)
+  same-length c = c .before .out3 .given .1 ∙ copied-length (on (again (c .before .before)))
 
   returns : lts.Need-returns calls at merge.Post
   returns c =
-      let e = c .before .before .before .before .before in
-      let d = e .before .before .before .before in
+      let e = again (c .before .before) in
+      let d = on e in
       let f = found d in
       let s = start f in
       let p = d .before .before .before in
@@ -196,11 +213,11 @@ module _ (t : ℕ) where
       (sym (p .words-le .ensures) ∙ d .before .before .if1 .taken) (e .if2 .taken) (c .before .before .merge .ensures)
 
   same-length-2 : lts.Need-same-length-2 calls at merge.Post
-  same-length-2 c = copied-length (c .before .before .before .before)
+  same-length-2 c = copied-length (off c)
 
   returns-2 : lts.Need-returns-2 calls at merge.Post
   returns-2 c =
-      let d = c .before .before .before .before in
+      let d = off c in
       let f = found d in
       let s = start f in
       let p = d .before .before .before in
@@ -209,13 +226,13 @@ module _ (t : ℕ) where
 
   -- ── the other is the smaller ──
   mul-words-in : lts.Need-mul-words-in calls at merge.Post
-  mul-words-in c = omega (arith, all (start (c .before .before .before .before)))
+  mul-words-in c = omega (arith, all (start (larger c)))
 
   sub-words-in : lts.Need-sub-words-in calls at merge.Post
-  sub-words-in c = let s = start (c .before .before .before .before) in omega (arith, all s, written s)
+  sub-words-in c = let s = start (larger c) in omega (arith, all s, written s)
 
   part-words-in-start : lts.Need-part-words-in-start calls at merge.Post
-  part-words-in-start c = let s = start (c .before .before .before .before .before) in omega (arith, all s, written s)
+  part-words-in-start c = let s = start (larger (c .before)) in omega (arith, all s, written s)
 
   part-words-in-end : lts.Need-part-words-in-end calls at merge.Post
   part-words-in-end c = search needs
@@ -226,7 +243,7 @@ module _ (t : ℕ) where
   pull-requires : lts.Need-pull-requires calls at merge.Post
   pull-requires c κs =
       let d = c .before in
-      let s = start (d .before .before .before .before .before .before .before) in
+      let s = start (larger (d .before .before .before)) in
       omega (arith, written s, right-room (s .args .op) (a s) (out s) (d .words-in .ensures) (given s))
 
   abbrev Pulled : Type 0
@@ -236,7 +253,7 @@ module _ (t : ℕ) where
   counted c = c .before .before
 
   abbrev found-2 : Pulled → Found
-  found-2 c = counted c .before .before .before .before .before .before .before
+  found-2 c = larger (counted c .before .before .before)
 
   abbrev pulled : Pulled → List ℕ
   pulled c = c .pull .last .0
@@ -247,24 +264,37 @@ module _ (t : ℕ) where
       let s = start (found-2 c) in
       (c .pull .kept .0 ∙ written s, omega (arith, right-room (s .args .op) (a s) (out s) (counted c .words-in .ensures) (given s)))
 
+  -- its chain goes on, or not; and the calls for the rest
+  abbrev on-2 : lts.Then3 calls at merge.Post → Pulled
+  on-2 c = c .before .before .before
+
+  abbrev off-2 : lts.Else3 calls at merge.Post → Pulled
+  off-2 c = c .before .before .before
+
+  abbrev again-2 : lts.After-merge2 calls at merge.Post → lts.Then3 calls at merge.Post
+  again-2 c = c .before .before
+
+  abbrev ended : lts.After-copy2 calls at merge.Post → lts.Else3 calls at merge.Post
+  ended c = c .before .before
+
   add-merge : lts.Need-add-merge calls at merge.Post
-  add-merge c = omega (arith, pulled-room (c .before .before .before))
+  add-merge c = omega (arith, pulled-room (on-2 c))
 
   mul-merge-3 : lts.Need-mul-merge-3 calls at merge.Post
-  mul-merge-3 c = omega (arith, pulled-room (c .before .before .before))
+  mul-merge-3 c = omega (arith, pulled-room (on-2 c))
 
   sub-merge-3 : lts.Need-sub-merge-3 calls at merge.Post
-  sub-merge-3 c = omega (arith, pulled-room (c .before .before .before))
+  sub-merge-3 c = omega (arith, pulled-room (on-2 c))
 
   part-merge-start-3 : lts.Need-part-merge-start-3 calls at merge.Post
-  part-merge-start-3 c = omega (arith, pulled-room (c .before .before .before))
+  part-merge-start-3 c = omega (arith, pulled-room (on-2 c))
 
   part-merge-end-3 : lts.Need-part-merge-end-3 calls at merge.Post
   part-merge-end-3 c = search needs
 
   merge-requires-2 : lts.Need-merge-requires-2 calls at merge.Post
   merge-requires-2 c κs =
-      let d = c .before .before .before .before in
+      let d = on-2 (c .before) in
       let n = counted d .words-in in
       let s = start (found-2 d) in (
         omega (arith, from-length (1 + n .result) (pulled d), pulled-room d, all s, s .pre .0),
@@ -272,12 +302,12 @@ module _ (t : ℕ) where
       )
 
   same-length-3 : lts.Need-same-length-3 calls at merge.Post
-  same-length-3 c = c .before .out6 .given .1 ∙ pulled-room (c .before .before .before .before .before .before .before) .0
+  same-length-3 c = c .before .out6 .given .1 ∙ pulled-room (on-2 (again-2 (c .before .before))) .0
 
   returns-3 : lts.Need-returns-3 calls at merge.Post
   returns-3 c =
-      let e = c .before .before .before .before in
-      let d = e .before .before .before in
+      let e = again-2 (c .before .before) in
+      let d = on-2 e in
       let f = found-2 d in
       let s = start f in
       let i = counted d .before .before .before in
@@ -285,18 +315,18 @@ module _ (t : ℕ) where
       (sym (i .before .words-le .ensures) ∙ i .if1 .left) (e .if3 .taken) (c .before .before .merge2 .ensures)
 
   add-copy : lts.Need-add-copy calls at merge.Post
-  add-copy c = omega (arith, pulled-room (c .before .before .before .before))
+  add-copy c = omega (arith, pulled-room (off-2 (c .before)))
 
   copy-requires-2 : lts.Need-copy-requires-2 calls at merge.Post
-  copy-requires-2 c κs = omega (arith, pulled-room (c .before .before .before .before))
+  copy-requires-2 c κs = omega (arith, pulled-room (off-2 (c .before)))
 
   same-length-4 : lts.Need-same-length-4 calls at merge.Post
-  same-length-4 c = c .before .before .copy2 .kept .1 .0 ∙ pulled-room (c .before .before .before .before .before .before .before) .0
+  same-length-4 c = c .before .before .copy2 .kept .1 .0 ∙ pulled-room (off-2 (ended (c .before .before))) .0
 
   returns-4 : lts.Need-returns-4 calls at merge.Post
   returns-4 c =
-      let e = c .before .before .before .before in
-      let d = e .before .before .before in
+      let e = ended (c .before .before) in
+      let d = off-2 e in
       let f = found-2 d in
       let s = start f in
       let i = counted d .before .before .before in

@@ -11,7 +11,7 @@ use borrow.Fn.Kinds.{In}
 use borrow.Fn.PlainCycle.{Measures, is, falls, and}
 use Rattle.soda.proofs.Lists.{from-length}
 use Rattle.policy.specs.Words.{kind, sides}
-use Rattle.normal.specs.Merging.{Spelt}
+use Rattle.normal.specs.Private.{Spelt}
 use Rattle.normal.proofs.Normalising.{One, Two, spelt-some, spelt-room, no-side, one-side, two-sides, one-word, inner, over-word, first-side, sizes, second-side, both-sides, both-words, over-both}
 use Rattle.normal.proofs.normal_term.Reads as normal-term
 use Rattle.normal.proofs.normal_term.Kinds as normal-term-kinds
@@ -88,18 +88,24 @@ module _ (t : ℕ) where
       (omega (arith, from-length 1 (ws p), spelt-some s, start p .pre .0), first-side (ws p) (out p) s (two d s))
 
   -- the first side is written
-  abbrev first : lts.After-normal-term calls at normal-term.Post → List ℕ
+  abbrev First : Type 0
+  First = lts.After-normal-term calls at normal-term.Post
+
+  abbrev parted : First → lts.Then1 calls at normal-term.Post
+  parted c = c .before .before .before
+
+  abbrev first : First → List ℕ
   first c = c .normal-term .last .1 .0
 
-  room : (c : lts.After-normal-term calls at normal-term.Post) → let p = c .before .before .before .before in let n = c .normal-term .result in
+  room : (c : First) → let p = parted c .before in let n = c .normal-term .result in
       (1 + n < length (ws p)) × (1 + n < length (out p)) × (n < 31)
   room c =
-      let d = c .before .before .before in
+      let d = parted c in
       let p = d .before in
       let s = spelt p in
       sizes (ws p) (out p) s (two d s) (replicate 31 0) (first c) refl (c .normal-term .ensures)
 
-  first-length : (c : lts.After-normal-term calls at normal-term.Post) → c .normal-term .result ≤ length (first c)
+  first-length : (c : First) → c .normal-term .result ≤ length (first c)
   first-length c = omega (arith, c .normal-term .kept .1 .0, room c .2)
 
   add-second : lts.Need-add-second calls at normal-term.Post
@@ -132,33 +138,43 @@ module _ (t : ℕ) where
   normal-term-requires-2 : lts.Need-normal-term-requires-2 calls at normal-term.Post
   normal-term-requires-2 c κs =
       let d = c .before .before .before in
-      let e = d .before .before .before in
+      let e = parted d in
       let p = e .before in
       let s = spelt p in (
         omega (arith, from-length (1 + d .normal-term .result) (ws p), room d .0, start p .pre .0),
         second-side (ws p) (out p) s (two e s) (replicate 31 0) (first d) refl (d .normal-term .ensures),
       )
 
+  -- the second side is written, and both are merged
+  abbrev second : lts.After-normal-term2 calls at normal-term.Post → First
+  second c = c .before .before .before .before
+
+  abbrev sides-written : lts.After-merge-arg calls at normal-term.Post → lts.After-out calls at normal-term.Post
+  sides-written c = c .before .before .before
+
+  abbrev merged : lts.After-slice-known3 calls at normal-term.Post → lts.After-merge calls at normal-term.Post
+  merged c = c .before .before
+
   array-share-prefix-first : lts.Need-array-share-prefix-first calls at normal-term.Post
-  array-share-prefix-first c = first-length (c .before .before .before .before .before .before)
+  array-share-prefix-first c = first-length (second (c .before .before))
 
   slice-aggregate-merge : lts.Need-slice-aggregate-merge calls at normal-term.Post
-  slice-aggregate-merge c = let d = c .before .before .before .before .before .before .before in sym (length-take-le (d .normal-term .result) (first d) (first-length d))
+  slice-aggregate-merge c = let d = second (c .before .before .before) in sym (length-take-le (d .normal-term .result) (first d) (first-length d))
 
   merge-requires : lts.Need-merge-requires calls at normal-term.Post
   merge-requires c κs =
-      let g = c .before .before .before .before in
-      let d = g .before .before .before .before in
-      let e = d .before .before .before in
+      let g = sides-written c .before in
+      let d = second g in
+      let e = parted d in
       let p = e .before in
       let s = spelt p in
       both-sides (ws p) (out p) s (two e s) (replicate 31 0) (first d) refl (d .normal-term .ensures) (g .normal-term2 .ensures)
 
   add-result : lts.Need-add-result calls at normal-term.Post
   add-result c =
-      let g = c .before .before .before .before .before .before .before in
-      let d = g .before .before .before .before in
-      let e = d .before .before .before in
+      let g = sides-written (merged c .before) .before in
+      let d = second g in
+      let e = parted d in
       let p = e .before in
       let s = spelt p in
       omega (
@@ -168,17 +184,17 @@ module _ (t : ℕ) where
       )
 
   same-length : lts.Need-same-length calls at normal-term.Post
-  same-length c = c .before .before .merge .kept .1 .1 .0 ∙ c .before .before .before .before .before .before .out .given .1
+  same-length c = merged c .merge .kept .1 .1 .0 ∙ sides-written (merged c .before) .out .given .1
 
   returns : lts.Need-returns calls at normal-term.Post
   returns c = λ s.
-      let g = c .before .before .before .before .before .before .before in
-      let d = g .before .before .before .before in
-      let e = d .before .before .before in
+      let g = sides-written (merged c .before) .before in
+      let d = second g in
+      let e = parted d in
       let p = e .before in
       let f = d .normal-term .ensures in (
         both-words (ws p) (out p) s (two e s) (replicate 31 0) (first d) refl f (g .normal-term2 .ensures),
-        over-both (ws p) (out p) s (two e s) (replicate 31 0) (first d) refl f (g .normal-term2 .ensures) (c .before .before .merge .ensures),
+        over-both (ws p) (out p) s (two e s) (replicate 31 0) (first d) refl f (g .normal-term2 .ensures) (merged c .merge .ensures),
       )
 
   -- ── one side or none ──
@@ -219,21 +235,27 @@ module _ (t : ℕ) where
       let s = spelt p in
       (omega (arith, from-length 1 (ws p), spelt-some s, start p .pre .0), inner (ws p) (out p) s (one d s))
 
+  abbrev inside : lts.After-slice-known4 calls at normal-term.Post → lts.After-normal-term3 calls at normal-term.Post
+  inside c = c .before .before
+
+  abbrev over : lts.After-slice-known4 calls at normal-term.Post → lts.Else2 calls at normal-term.Post
+  over c = inside c .before .before .before
+
   add-result-2 : lts.Need-add-result-2 calls at normal-term.Post
   add-result-2 c =
-      let d = c .before .before .before .before .before in
+      let d = over c in
       let p = d .before .before in
       let s = spelt p in
-      omega (arith, over-word (ws p) (out p) s (one d s) (c .before .before .normal-term3 .ensures) .0, s .short)
+      omega (arith, over-word (ws p) (out p) s (one d s) (inside c .normal-term3 .ensures) .0, s .short)
 
   same-length-3 : lts.Need-same-length-3 calls at normal-term.Post
-  same-length-3 c = let p = c .before .before .before .before .before .before .before in c .before .out3 .given .1 ∙ length-set (out p) 0 (getD (ws p) 0 0)
+  same-length-3 c = let p = over c .before .before in c .before .out3 .given .1 ∙ length-set (out p) 0 (getD (ws p) 0 0)
 
   returns-3 : lts.Need-returns-3 calls at normal-term.Post
   returns-3 c = λ s.
-      let d = c .before .before .before .before .before in
+      let d = over c in
       let p = d .before .before in
-      over-word (ws p) (out p) s (one d s) (c .before .before .normal-term3 .ensures)
+      over-word (ws p) (out p) s (one d s) (inside c .normal-term3 .ensures)
 
 pub +normal-term-spec : {M : Type 1} → statement M
 +normal-term-spec = close μ λ t. lts.spec (calls t) (at t) normal-term.Post

@@ -3,9 +3,9 @@ use mathlib.Core.Path.{_≡_}
 use Prim.Native.Nat.{_+_, _-_, _≤_}
 use native.Mathlib.Omega.{arith}
 use lib.ListN.{length}
-use Rattle.soda.proofs.Lists.{from-drop, from-length}
 use Rattle.soda.specs.Lists.{from}
-use Rattle.normal.specs.Merging.{lead}
+use Rattle.soda.proofs.Lists.{from-drop, from-length}
+use Rattle.normal.specs.Private.{lead}
 use Rattle.normal.proofs.Chains.{span-within, lead-most}
 use borrow.Author.Needs.{needs}
 use Rattle.normal.proofs.first_operand.Statement.{statement}
@@ -36,12 +36,15 @@ words-in-requires : tie.Need-words-in-requires
 words-in-requires c κs = search needs
 
 -- the term's words lie within the chain's
-within : (c : tie.After-words-in) → let a = c .before .before .before .before .args in lead (a .op) (a .chain .now) + c .words-in .result ≤ length (a .chain .now)
+abbrev begun : tie.After-words-in-arg → tie.Start
+begun c = c .before .before .before
+
+within : (c : tie.After-words-in) → let a = begun (c .before) .args in lead (a .op) (a .chain .now) + c .words-in .result ≤ length (a .chain .now)
 within c =
-    let a = c .before .before .before .before .args in
+    let a = begun (c .before) .args in
     let s = lead (a .op) (a .chain .now) in
     rw (c .words-in .ensures)
-    (omega (arith, start-most (c .before .before), span-within 1 (from s (a .chain .now)), from-length s (a .chain .now), c .before .before .before .before .pre))
+    (omega (arith, start-most (c .before .before), span-within 1 (from s (a .chain .now)), from-length s (a .chain .now), begun (c .before) .pre))
 
 add-end : tie.Need-add-end
 add-end c = omega (arith, within c)
@@ -61,7 +64,7 @@ part-result-end c = within c
 returns : tie.Need-returns
 returns c =
     let w = c .before in
-    let a = w .before .before .before .before .args in
+    let a = begun (w .before) .args in
     let s = lead (a .op) (a .chain .now) in
     let e : s + w .words-in .result - s ≡ w .words-in .result = omega arith in
     rw (e, w .words-in .ensures, from-drop s (a .chain .now))

@@ -17,7 +17,7 @@ use Rattle.policy.specs.Refusals.{Refusals, code}
 use Rattle.policy.specs.Words.{decode}
 use Rattle.policy.specs.Reading.{refusals, unitsOf, numberOf, readPolicy}
 use Rattle.normal.specs.NormalForms.{normalWords, normalRefusals, normalCode, normalOut}
-use Rattle.normal.specs.Merging.{Spelt, Written}
+use Rattle.normal.specs.Private.{Spelt, Written}
 use Rattle.policy.specs.declared.PolicyRead.{PolicyRead}
 use Rattle.policy.specs.declared.PolicyRead.the-variants.{Accepted, Refused}
 use Rattle.policy.proofs.Refusals.{clear, code-front, code-behind}
@@ -107,8 +107,11 @@ returns c =
     (c .number-of .ensures ∙ ap numberOf (told .1) ∙ q .0, q .1)
 
 -- the policy is accepted
+abbrev asked : tie.After-known-told → tie.After-read
+asked c = c .before .before .before
+
 abbrev start : tie.After-known-told → tie.Start
-start c = c .before .before .before .before .before .before
+start c = asked c .before .before .before
 
 abbrev size-of : tie.After-known-told → ℕ
 size-of c = c .before .answer .given .0 .0
@@ -117,7 +120,7 @@ abbrev units-of : tie.After-known-told → ℕ
 units-of c = c .before .answer .given .0 .1 .0
 
 answered : (c : tie.After-known-told) → let a = start c .args in readPolicy (a .users) (a .roles) (a .words .now) ≡ Accepted (size-of c) (units-of c)
-answered c = sym (c .before .before .before .read .ensures) ∙ c .before .answer .given .1
+answered c = sym (asked c .read .ensures) ∙ c .before .answer .given .1
 
 returns-2 : tie.Need-returns-2
 returns-2 c =
@@ -136,11 +139,12 @@ same-length c = search needs
 
 returns-3 : tie.Need-returns-3
 returns-3 c =
-    let e = c .before .before .before .before in
+    let n = c .before .before in
+    let e = n .before .before in
     let p = e .before in
     let a = start p .args in (
       accepted (a .users) (a .roles) (a .words .now) (a .out .now) (size-of p) (units-of p) (answered p) (e .if1 .left),
-      written (a .users) (a .roles) (a .words .now) (a .out .now) (size-of p) (units-of p) (answered p) (e .if1 .left) (c .before .before .normal-term .ensures),
+      written (a .users) (a .roles) (a .words .now) (a .out .now) (size-of p) (units-of p) (answered p) (e .if1 .left) (n .normal-term .ensures),
     )
 
 pub normal-form-spec : {M : Type 1} → statement M

@@ -7,7 +7,7 @@ use native.Mathlib.Omega.{arith}
 use lib.ListN.{length, getD, drop, drop-of-length-le}
 use lib.Seq.{drop-cons}
 use Rattle.policy.specs.Words.{kind, sides}
-use Rattle.normal.specs.Merging.{span}
+use Rattle.normal.specs.Private.{span}
 use Rattle.normal.proofs.Chains.{sides-few, span-none}
 use borrow.Author.Needs.{needs}
 use Rattle.normal.proofs.words_in.Statement.{statement}
@@ -32,9 +32,9 @@ one-less n i ws h g =
 
 returns : tie.Need-returns Inv-loop μ-loop
 returns c =
-    let ws = c .before .before .before .before .args .words .now in
-    let l = c .before .before .loop in
-    omega (arith, span-none (drop (l .i) ws), rw (c .if1 .taken) at (l .inv .2))
+    let at = c .before .before in
+    let ws = at .before .before .args .words .now in
+    omega (arith, span-none (drop (at .loop .i) ws), rw (c .if1 .taken) at (at .loop .inv .2))
 
 sub-terms : tie.Need-sub-terms Inv-loop μ-loop
 sub-terms c = search needs
@@ -54,7 +54,8 @@ cast-terms c = search needs
 few : (c : tie.After-sides-of Inv-loop μ-loop) → c .sides-of .result ≤ 2
 few c =
     let e = c .before .before in
-    rw (c .sides-of .ensures) (sides-few (kind (getD (e .before .before .before .before .args .words .now) (e .before .before .loop .i) 0)))
+    let at = e .before .before in
+    rw (c .sides-of .ensures) (sides-few (kind (getD (at .before .before .args .words .now) (at .loop .i) 0)))
 
 add-terms : tie.Need-add-terms Inv-loop μ-loop
 add-terms c = omega (arith, few c)
@@ -68,8 +69,9 @@ loop-less c = omega arith
 loop-again : tie.Need-loop-again Inv-loop μ-loop
 loop-again c =
     let e = c .before .before in
-    let ws = e .before .before .before .before .args .words .now in
-    let l = e .before .before .loop in (
+    let at = e .before .before in
+    let ws = at .before .before .args .words .now in
+    let l = at .loop in (
       omega arith,
       omega (arith, few c),
       rw (c .sides-of .ensures) (sym (one-less (l .terms) (l .i) ws (e .if1 .left) (e .before .loop-test .taken)) ∙ l .inv .2),

@@ -1,0 +1,169 @@
+-- The measure is the length. By the first word's sides, a law of `Scanning` says what the answer is.
+use mathlib.Core.Path.{sym, ap, _∙_}
+use mathlib.Core.List.{List}
+use Prim.Native.Nat.{ℕ, _+_, _<_, _≤_}
+use native.Mathlib.Omega.{arith}
+use lib.ListN.{length}
+use borrow.Author.Needs.{needs}
+use borrow.Author.Tests.{not-true, not-false}
+use borrow.Fn.Kinds.{In}
+use borrow.Fn.PlainCycle.{Measures, is, falls, and}
+use Rattle.soda.proofs.Lists.{from-length}
+use Rattle.soda.specs.Lists.{from}
+use Rattle.policy.specs.Words.{first}
+use Rattle.policy.specs.Private.{sizeOf}
+use Rattle.policy.proofs.Scanning.{Word, word-known, word-unknown, no-words, first-within, scan-leaf, scan-missing, scan-one, scan-missing-second, scan-two}
+use Rattle.policy.proofs.terms.scan.Reads as scan
+use Rattle.policy.proofs.terms.scan.Kinds as scan-kinds
+use Rattle.policy.proofs.terms.+scan.Lts-scan as lts
+use Rattle.policy.proofs.words.is_known.Reads as is-known
+use Rattle.policy.proofs.words.kind_of.Reads as kind-of
+use Rattle.policy.proofs.words.sides_of.Reads as sides-of
+use Rattle.policy.proofs.terms.+scan.{statement}
+use Rattle.policy.proofs.terms.+scan.Tie.{close}
+
+abbrev μ : Measures 1 scan-kinds.ps ℕ
+μ κs a = length (a .0 .now)
+
+module _ (t : ℕ) where
+  abbrev at : In 1 scan-kinds.ps
+  at = and 1 scan-kinds.ps (is 1 scan-kinds.ps μ t) scan.Pre
+
+  -- what the callees ask and ensure, with the call of itself below the measure t
+  abbrev calls : lts.Claims
+  calls = (
+    kind-of.Asked,
+    kind-of.Learnt,
+    is-known.Asked,
+    is-known.Learnt,
+    sides-of.Asked,
+    sides-of.Learnt,
+    and 1 scan-kinds.ps (falls 1 scan-kinds.ps _<_ μ t) scan.Pre,
+    scan.Post,
+  )
+
+  returns : lts.Need-returns calls at scan.Post
+  returns c =
+      let a = c .before .before .args in
+      sym (ap (λ (ws : List ℕ). sizeOf (first ws)) (no-words (a .words .now) (c .if1 .taken)))
+
+  -- where the first word's kind is read, and the start
+  abbrev some : lts.After-kind-of calls at scan.Post → lts.Else1 calls at scan.Post
+  some c = c .before .before
+
+  abbrev given : lts.After-kind-of calls at scan.Post → lts.Start calls at scan.Post
+  given c = some c .before .before
+
+  returns-2 : lts.Need-returns-2 calls at scan.Post
+  returns-2 c =
+      let r = c .before .before in
+      let k = r .kind-of in
+      sym (ap sizeOf (word-unknown (given r .args .words .now) (k .result) (some r .if1 .left) (k .ensures)
+      (sym (c .before .is-known .ensures) ∙ not-true (c .before .is-known .result) (c .if2 .taken))))
+
+  abbrev read : lts.After-sides-of calls at scan.Post → lts.After-kind-of calls at scan.Post
+  read c = c .before .before .before
+
+  abbrev start : lts.After-sides-of calls at scan.Post → lts.Start calls at scan.Post
+  start c = given (read c)
+
+  -- the first word's kind and sides
+  word : (c : lts.After-sides-of calls at scan.Post) → Word (start c .args .words .now) (read c .kind-of .result) (c .sides-of .result)
+  word c =
+      let k = read c .kind-of in
+      let b = c .before .before .is-known in
+      word-known (start c .args .words .now) (k .result) (c .sides-of .result) (some (read c) .if1 .left) (k .ensures)
+      (sym (b .ensures) ∙ not-false (b .result) (c .before .if2 .left)) (c .sides-of .ensures)
+
+  returns-3 : lts.Need-returns-3 calls at scan.Post
+  returns-3 c = scan-leaf (start (c .before) .args .words .now) (word (c .before)) (c .if3 .taken)
+
+  scan-requires : lts.Need-scan-requires calls at scan.Post
+  scan-requires c κs =
+      let w = c .before .before in
+      let l = from-length 1 (start w .args .words .now) in
+      (omega (arith, word w .inside, start w .pre .0), omega (arith, start w .pre .1))
+
+  abbrev known : lts.After-scan calls at scan.Post → lts.After-sides-of calls at scan.Post
+  known c = c .before .before .before
+
+  returns-4 : lts.Need-returns-4 calls at scan.Post
+  returns-4 c =
+      let w = known (c .before) in
+      scan-missing (start w .args .words .now) (word w) (c .before .before .before .if3 .left) (sym (c .before .scan .ensures) ∙ c .if4 .taken)
+
+  -- how long the first side may be
+  within : (c : lts.After-scan calls at scan.Post) → (1 + c .scan .result ≤ length (start (known c) .args .words .now)) × (length (start (known c) .args .words .now) ≤ 31)
+  within c =
+      let ws : List ℕ = start (known c) .args .words .now in
+      (omega (arith, word (known c) .inside, from-length 1 ws, first-within (from 1 ws), c .scan .ensures), start (known c) .pre .1)
+
+  returns-5 : lts.Need-returns-5 calls at scan.Post
+  returns-5 c =
+      let e = c .before .before in
+      scan-one (start (known e) .args .words .now) (word (known e)) (e .scan .result) (e .scan .ensures) (c .before .if4 .left) (c .if5 .taken)
+
+  scan-requires-2 : lts.Need-scan-requires-2 calls at scan.Post
+  scan-requires-2 c κs =
+      let e = c .before .before .before in
+      let s = start (known e) in
+      let l = from-length (1 + e .scan .result) (s .args .words .now) in
+      (omega (arith, word (known e) .inside, s .pre .0), omega (arith, s .pre .1))
+
+  returns-6 : lts.Need-returns-6 calls at scan.Post
+  returns-6 c =
+      let g = c .before .before .before in
+      let e = g .before .before in
+      scan-missing-second (start (known e) .args .words .now) (word (known e)) (e .scan .result) (e .scan .ensures) (g .before .if4 .left)
+      (e .before .before .if3 .left) (g .if5 .left) (sym (c .before .scan2 .ensures) ∙ c .if6 .taken)
+
+  -- how long both sides may be
+  abbrev first-side : lts.After-scan2 calls at scan.Post → lts.After-scan calls at scan.Post
+  first-side c = c .before .before .before .before
+
+  within-2 : (c : lts.After-scan2 calls at scan.Post) → 1 + first-side c .scan .result + c .scan2 .result ≤ 31
+  within-2 c =
+      let e = first-side c in
+      let ws : List ℕ = start (known e) .args .words .now in
+      omega (
+        arith,
+        within e,
+        from-length (1 + e .scan .result) ws,
+        first-within (from (1 + e .scan .result) ws),
+        c .scan2 .ensures,
+      )
+
+  returns-7 : lts.Need-returns-7 calls at scan.Post
+  returns-7 c =
+      let g = c .before .before .before in
+      let e = g .before .before in
+      scan-two (start (known e) .args .words .now) (word (known e)) (e .scan .result) (e .scan .ensures) (g .before .if4 .left)
+      (e .before .before .if3 .left) (g .if5 .left) (c .before .scan2 .result) (c .before .scan2 .ensures) (c .if6 .left)
+
+pub +scan-spec : {M : Type 1} → statement M
++scan-spec = close μ λ t. lts.spec (calls t) (at t) scan.Post
+    (returns t)
+    (λ c. search needs)
+    (λ c κs. search needs)
+    (λ c κs. search needs)
+    (returns-2 t)
+    (λ c κs. search needs)
+    (returns-3 t)
+    (λ c. search needs)
+    (λ c. search needs)
+    (λ c. search needs)
+    (scan-requires t)
+    (returns-4 t)
+    (λ c. omega (arith, within t (c .before .before)))
+    (returns-5 t)
+    (λ c. search needs)
+    (λ c. omega (arith, within t (c .before .before)))
+    (λ c. omega (arith, within t (c .before .before)))
+    (λ c. within t (c .before .before) .0)
+    (λ c. within t (c .before .before) .0)
+    (λ c. search needs)
+    (scan-requires-2 t)
+    (returns-6 t)
+    (λ c. omega (arith, within-2 t (c .before)))
+    (λ c. omega (arith, within-2 t (c .before)))
+    (returns-7 t)

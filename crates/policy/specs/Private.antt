@@ -1,0 +1,83 @@
+-- What the crate's own functions answer: tests of one word, the first term of some words, and what is kept of a row of terms.
+use mathlib.Core.Path.{_≡_}
+use mathlib.Core.Bool.{Bool, true, false, not, _&&_, _||_, cond}
+use mathlib.Core.List.{List, map}
+use mathlib.Core.Option.{Option, some, none}
+use Prim.Native.Nat.{ℕ, _+_, _-_, _*_, _/_, _%_, _^_}
+use lib.Bits.{bitAnd, bitOr}
+use lib.Dec.{leb, ltb, eqb}
+use Rattle.soda.specs.Lists.{padded}
+use Rattle.soda.specs.Bits.{bit, number}
+use Rattle.soda.specs.Terms.{Term, unit, wellFormed, size, marks}
+use Rattle.soda.specs.Tables.{metBits}
+use Rattle.policy.specs.Kinds.{EVERYONE, ROLE, NOT, PLUS, EITHER, BOTH, TOGETHER, APART}
+use Rattle.policy.specs.Words.{kind, decode}
+use Rattle.policy.specs.Shapes.{rightSides}
+use Rattle.policy.specs.declared.terms.Stack.{Stack}
+use Rattle.policy.specs.declared.terms.Analysis.{Analysis}
+use Rattle.policy.specs.declared.shapes.KindMasks.{KindMasks}
+
+-- a kind of 01's table
+abbrev pub known : ℕ → Bool
+known k = leb EVERYONE k && leb k APART
+
+-- whether the user meets a term of one word, of kind k with operand x
+abbrev pub meetsLeaf : ℕ → ℕ → ℕ → ℕ → Bool
+meetsLeaf k x u h = cond (eqb k EVERYONE) (not (eqb h 0)) (cond (eqb k ROLE) (bit x h) (bit u x && not (eqb h 0)))
+
+-- whether the user meets a term of kind k with two sides, from whether each side is met
+abbrev pub meetsSides : ℕ → Bool → Bool → Bool
+meetsSides k a b = (eqb k EITHER && (a || b)) || (eqb k BOTH && (a && b))
+
+-- how many words a term is; 0 for none
+abbrev pub sizeOf : Option Term → ℕ
+sizeOf none = 0
+sizeOf (some φ) = size φ
+
+-- bits with one more below them, in 32 bits
+abbrev pub putOf : ℕ → Bool → ℕ
+putOf n b = bitOr (n * 2 ^ 1 % 2 ^ 32) (cond b 1 0)
+
+-- a term in the place of the row's first n, which are its sides
+abbrev pub placedOf : Stack → ℕ → Bool → Bool → Bool → Stack
+placedOf s n u m f = record {
+  terms = s .terms - n + 1;
+  unit = putOf (s .unit / 2 ^ n) u;
+  met = putOf (s .met / 2 ^ n) m;
+  formed = f;
+  units = putOf (s .units) u;
+  noted = putOf (s .noted) (u && m);
+}
+
+abbrev pub leafOf : Stack → Bool → Stack
+leafOf s m = placedOf s 0 true m (s .formed)
+
+abbrev pub overOf : Stack → ℕ → Stack
+overOf s k = placedOf s 1 (eqb k NOT && bit 0 (s .unit)) (eqb k NOT && not (bit 0 (s .met))) (bit 0 (s .unit) && s .formed)
+
+abbrev pub besideOf : Stack → ℕ → Stack
+besideOf s k =
+    placedOf s 2 (ltb k TOGETHER && (bit 0 (s .unit) && bit 1 (s .unit))) (meetsSides k (bit 0 (s .met)) (bit 1 (s .met))) (s .formed)
+
+-- by the sides of the word, of kind k with operand x
+abbrev pub stepOf : ℕ → ℕ → Stack → ℕ → ℕ → ℕ → Stack
+stepOf u h s k n x = cond (eqb n 0) (leafOf s (meetsLeaf k x u h)) (cond (eqb n 1) (overOf s k) (besideOf s k))
+
+-- what is found of the term that some words are
+abbrev pub analysisIn : ℕ → ℕ → Option Term → Analysis
+analysisIn u h none = record { formed = false; units = 0; noted = 0 }
+analysisIn u h (some φ) = record { formed = wellFormed φ; units = marks unit φ; noted = metBits φ u h }
+
+-- the words of kind k
+abbrev pub ofKind : ℕ → List ℕ → ℕ
+ofKind k ws = number (map (λ w. eqb (kind w) k) ws)
+
+abbrev pub kindsOf : List ℕ → KindMasks
+kindsOf ws = record { plus = ofKind PLUS ws; either = ofKind EITHER ws; both = ofKind BOTH ws; together = ofKind TOGETHER ws; apart = ofKind APART ws }
+
+abbrev pub withoutOf : ℕ → ℕ → ℕ
+withoutOf m n = m - bitAnd m n
+
+-- r has the places where right sides begin in the one term that the words are, if they are one
+abbrev pub RightsOf : List ℕ → List ℕ → Type 0
+RightsOf ws r = (φ : Term) → decode ws ≡ some φ → r ≡ padded 31 (rightSides 0 φ)

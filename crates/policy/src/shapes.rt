@@ -1,0 +1,123 @@
+// The shape of a policy: the words of each kind, and where right sides begin.
+ghost use mathlib.Core.Path.{_≡_};
+ghost use mathlib.Core.Option.{none};
+ghost use Prim.Native.Nat.{_≤_};
+ghost use lib.ListN.{length};
+ghost use Rattle.policy.specs.Shapes.{shapeIn, shapeOf};
+ghost use Rattle.policy.specs.Private.{kindsOf, withoutOf, RightsOf};
+use super::Shape;
+use super::kinds;
+use super::terms::analyse;
+use super::terms::put;
+use super::words::kind_of;
+use super::words::length_ok;
+use super::words::sides_of;
+
+// For each row of the table but "unit", the words of its kind.
+struct KindMasks {
+    plus: u32,
+    either: u32,
+    both: u32,
+    together: u32,
+    apart: u32,
+}
+
+// No word yet.
+const NO_KINDS: KindMasks = KindMasks {
+    plus: 0,
+    either: 0,
+    both: 0,
+    together: 0,
+    apart: 0,
+};
+
+// The words of each kind.
+fn kind_masks(words: &[u32]) -> KindMasks
+    requires { ⌜ length (now words) ≤ 31 ⌝ }
+    ensures { λ r. ⌜ r ≡ kindsOf (now (words .entry)) ⌝ }
+{
+    let mut m = NO_KINDS;
+    let mut i = words.len();
+    while 0 < i {
+        i -= 1;
+        let k = kind_of(words[i]);
+        m = KindMasks {
+            plus: put(m.plus, k == kinds::PLUS),
+            either: put(m.either, k == kinds::EITHER),
+            both: put(m.both, k == kinds::BOTH),
+            together: put(m.together, k == kinds::TOGETHER),
+            apart: put(m.apart, k == kinds::APART),
+        };
+    }
+    m
+}
+
+// A set without the members of another.
+fn without(set: u32, out: u32) -> u32
+    ensures { λ r. ⌜ r ≡ withoutOf set out ⌝ }
+{
+    set - (set & out)
+}
+
+// Where the right side begins of the term at each word. Sides stand behind their word, so from the last word to the first it is
+// known where they end: end[i] is the place behind the term at word i.
+fn rights(words: &[u32]) -> [u8; 31]
+    requires { ⌜ length (now words) ≤ 31 ⌝ }
+    ensures { λ r. ⌜ RightsOf (now (words .entry)) r ⌝ }
+{
+    let mut right = [0u8; 31];
+    let mut end = [0u8; 32];
+    let mut i = words.len();
+    while 0 < i {
+        let next = i as u8;
+        let first_end = end[i];
+        i -= 1;
+        let n = sides_of(kind_of(words[i]));
+        let side = if n == 2 { first_end } else { next };
+        let side_end = end[side as usize];
+        right[i] = side;
+        end[i] = if n == 0 { next } else { side_end };
+    }
+    right
+}
+
+// The all-zero shape.
+fn no_shape() -> Shape
+    ensures { λ r. ⌜ r ≡ shapeIn none ⌝ }
+{
+    Shape {
+        words: 0,
+        units: 0,
+        plus: 0,
+        either: 0,
+        both: 0,
+        together: 0,
+        apart: 0,
+        right: [0; 31],
+    }
+}
+
+// The shape of a policy; all zero for words that are not one well-formed term of 1 to 31 words.
+pub fn shape_of(words: &[u32]) -> Shape
+    ensures { λ r. ⌜ r ≡ shapeOf (now (words .entry)) ⌝ }
+{
+    if !length_ok(words.len()) {
+        return no_shape();
+    }
+    let t = analyse(words, 0, 0);
+    if !t.formed {
+        return no_shape();
+    }
+    let m = kind_masks(words);
+    let right = rights(words);
+    Shape {
+        words: words.len() as u8,
+        units: t.units,
+        plus: m.plus,
+        either: without(m.either, t.units),
+        both: without(m.both, t.units),
+        together: without(m.together, t.units),
+        apart: without(m.apart, t.units),
+        right,
+    }
+}
