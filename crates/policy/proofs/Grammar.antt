@@ -7,12 +7,14 @@ use mathlib.Core.Option.{Option, some, none}
 use Prim.Native.Nat.{ℕ, zero, suc, _+_, _<_}
 use native.Mathlib.Numerals.{one-add}
 use native.Mathlib.Omega.{arith}
-use lib.Dec.{eqb}
+use lib.Dec.{leb, ltb, eqb}
 use lib.ListN.{length, drop}
 use lib.Seq.{drop-drop}
-use borrow.Author.Tests.{le-leb, lt-leb, eq-eqb, ne-eqb}
-use Rattle.soda.specs.Terms.{Op, either, both, together, apart, Term, everyone, role, set, ¬ᵗ_, _⁺, bin, size}
+use borrow.Author.Tests.{le-leb, lt-leb, leb-true, eq-eqb, ne-eqb}
+use Rattle.soda.specs.Terms.{Op, either, both, together, apart, Term, everyone, role, set, ¬ᵗ_, _⁺, bin, unitOp, size}
 use Rattle.soda.specs.Words.{opKind}
+use Rattle.soda.proofs.Bools.{and-split}
+use Rattle.policy.specs.Kinds.{EVERYONE, TOGETHER, APART}
 use Rattle.policy.specs.Words.{Kind, bad, everyoneK, roleK, setK, notK, plusK, opK, kind, operand, sides, kindOf, head, tail, lift1, lift2, push, row, first, single, decode}
 use Rattle.policy.specs.Accepted.{OpSides}
 use Rattle.policy.specs.Private.{known}
@@ -46,6 +48,9 @@ row-of (suc (suc (suc (suc (suc (suc (suc (suc zero)))))))) = inl (refl, rowOp t
 row-of (suc (suc (suc (suc (suc (suc (suc (suc (suc zero))))))))) = inl (refl, rowOp apart)
 row-of (suc (suc (suc (suc (suc (suc (suc (suc (suc (suc k)))))))))) = inr (past-nine (suc (suc (suc (suc (suc (suc (suc (suc (suc (suc k)))))))))) (omega arith), refl)
 
+pub known-low : (k : ℕ) → known k ≡ true → k < 10
+known-low k e = let z = leb-true k APART (and-split (leb EVERYONE k) (leb k APART) e .1) in omega arith
+
 pub known-row : (k n : ℕ) → known k ≡ true → n ≡ sides k → Row k n
 known-row k n e q = elim (row-of k) [
   | inl r ↦ rw q (r .1)
@@ -63,6 +68,13 @@ op-sides either = refl
 op-sides both = refl
 op-sides together = refl
 op-sides apart = refl
+
+-- the operators of unit terms are the lower ones
+pub unit-op : (op : Op) → ltb (opKind op) TOGETHER ≡ unitOp op
+unit-op either = refl
+unit-op both = refl
+unit-op together = refl
+unit-op apart = refl
 
 pub push-op : (op : Op) (x : ℕ) (ts : List (Option Term)) → push (kindOf (opKind op)) x ts ≡ lift2 op (head ts) (head (tail ts)) ∷ tail (tail ts)
 push-op either x ts = refl

@@ -1,9 +1,9 @@
 -- Masks over the elements of a list: one more put below, the first n taken away, those of another mask left out.
 use mathlib.Core.Path.{_≡_, refl, sym, _∙_, ap}
 use mathlib.Core.Bool.{Bool, true, false, not, _&&_, cond}
-use mathlib.Core.List.{List, [], _∷_, map}
-use Prim.Native.Nat.{ℕ, zero, suc, _+_, _*_, _/_, _^_, _≤_, _<_}
-use native.Mathlib.Nat.{pow-suc, div-one, zero-div}
+use mathlib.Core.List.{List, [], _∷_, _++_, map}
+use Prim.Native.Nat.{ℕ, zero, suc, _+_, _*_, _/_, _%_, _^_, _≤_, _<_}
+use native.Mathlib.Nat.{add-zero, mul-one, mul-left-comm, pow-suc, pow-succ', div-one, zero-div}
 use native.Mathlib.Numerals.{one-add}
 use native.Mathlib.Omega.{arith}
 use lib.Bits.{bitAnd, bitOr, or-shifted, and-block}
@@ -26,6 +26,20 @@ put-is b l h =
     ap (λ (n : ℕ). bitOr n (cond b 1 0)) (shl-exact (length l) 1 32 (number-lt l) e)
     ∙ or-shifted (number l) 1 (cond b 1 0) (digit-lt b)
     ∙ (let z : number l * 2 + cond b 1 0 ≡ cond b 1 0 + 2 * number l = omega arith in z)
+
+-- one mask behind another
+number-append : (l m : List Bool) → number (l ++ m) ≡ number m * 2 ^ length l + number l
+number-append [] m = sym (mul-one (number m)) ∙ sym (add-zero (number m * 1))
+number-append (b ∷ l) m =
+    let e : number m * 2 ^ suc (length l) ≡ 2 * (number m * 2 ^ length l) = ap (λ (x : ℕ). number m * x) (pow-succ' 2 (length l)) ∙ mul-left-comm (number m) 2 (2 ^ length l) in
+    omega (arith, number-append l m)
+
+pub joined : (l m : List Bool) → length l + length m ≤ 32 → bitOr (number m * 2 ^ length l % 2 ^ 32) (number l) ≡ number (l ++ m)
+joined l m h =
+    let e : length m + length l ≤ 32 = omega arith in
+    ap (λ (n : ℕ). bitOr n (number l)) (shl-exact (length m) (length l) 32 (number-lt m) e)
+    ∙ or-shifted (number m) (length l) (number l) (number-lt l)
+    ∙ sym (number-append l m)
 
 digit-and : (a b : Bool) → bitAnd (cond a 1 0) (cond b 1 0) + cond (a && not b) 1 0 ≡ cond a 1 0
 digit-and true true = refl

@@ -21,7 +21,7 @@ use Rattle.policy.specs.Private.{known, meetsSides, putOf, placedOf, ove
 use Rattle.policy.specs.declared.terms.Stack.{Stack}
 use Rattle.policy.specs.declared.terms.Analysis.{Analysis}
 use Rattle.policy.proofs.Masks.{put-is, taken}
-use Rattle.policy.proofs.Grammar.{Row, row1, row2, row3, row4, row5, rowOp, known-row, unknown-bad, push-op}
+use Rattle.policy.proofs.Grammar.{Row, row1, row2, row3, row4, row5, rowOp, known-row, unknown-bad, unit-op, push-op}
 
 -- the terms that begin at the words of a row of terms, one for each word
 abbrev under : List Term → List Term
@@ -42,12 +42,6 @@ stackOf u h ts = record {
 few : (ts : List Term) → length ts ≤ length (under ts)
 few [] = omega arith
 few (φ ∷ ts) = omega (arith, length-append (subterms φ) (under ts), subterms-length φ, size-pos φ, few ts)
-
-unit-op : (op : Op) → ltb (opKind op) 8 ≡ unitOp op
-unit-op either = refl
-unit-op both = refl
-unit-op together = refl
-unit-op apart = refl
 
 meets-op : (op : Op) (a b : Bool) → meetsSides (opKind op) a b ≡ meetsOp op a b
 meets-op either a b = or-false (a || b)

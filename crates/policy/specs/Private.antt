@@ -13,6 +13,7 @@ use Rattle.soda.specs.Tables.{metBits}
 use Rattle.policy.specs.Kinds.{EVERYONE, ROLE, NOT, PLUS, EITHER, BOTH, TOGETHER, APART}
 use Rattle.policy.specs.Words.{kind, decode}
 use Rattle.policy.specs.Shapes.{rightSides}
+use Rattle.policy.specs.declared.reader.First.{First}
 use Rattle.policy.specs.declared.terms.Stack.{Stack}
 use Rattle.policy.specs.declared.terms.Analysis.{Analysis}
 use Rattle.policy.specs.declared.shapes.KindMasks.{KindMasks}
@@ -29,14 +30,32 @@ meetsLeaf k x u h = cond (eqb k EVERYONE) (not (eqb h 0)) (cond (eqb k ROLE) (bi
 abbrev pub meetsSides : ℕ → Bool → Bool → Bool
 meetsSides k a b = (eqb k EITHER && (a || b)) || (eqb k BOTH && (a && b))
 
--- how many words a term is; 0 for none
-abbrev pub sizeOf : Option Term → ℕ
-sizeOf none = 0
-sizeOf (some φ) = size φ
-
 -- bits with one more below them, in 32 bits
 abbrev pub putOf : ℕ → Bool → ℕ
 putOf n b = bitOr (n * 2 ^ 1 % 2 ^ 32) (cond b 1 0)
+
+-- what is read of the first term of some words; nothing for none
+abbrev pub firstIn : Option Term → First
+firstIn none = record { words = 0; unit = false; formed = false; units = 0 }
+firstIn (some φ) = record { words = size φ; unit = unit φ; formed = wellFormed φ; units = marks unit φ }
+
+-- not or plus over a side
+abbrev pub overSide : ℕ → First → First
+overSide k a = record {
+  words = 1 + a .words;
+  unit = eqb k NOT && a .unit;
+  formed = a .unit && a .formed;
+  units = putOf (a .units) (eqb k NOT && a .unit);
+}
+
+-- an operator between two sides
+abbrev pub besideSides : ℕ → First → First → First
+besideSides k a b = record {
+  words = 1 + a .words + b .words;
+  unit = ltb k TOGETHER && (a .unit && b .unit);
+  formed = a .formed && b .formed;
+  units = putOf (bitOr (b .units * 2 ^ a .words % 2 ^ 32) (a .units)) (ltb k TOGETHER && (a .unit && b .unit));
+}
 
 -- a term in the place of the row's first n, which are its sides
 abbrev pub placedOf : Stack → ℕ → Bool → Bool → Bool → Stack

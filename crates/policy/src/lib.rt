@@ -1,6 +1,7 @@
 // Policy words: reading a policy, the unit terms that a user meets, and the shape that the monitor judges by.
 pub mod codes;
 pub mod kinds;
+mod reader;
 mod reading;
 mod shapes;
 mod terms;

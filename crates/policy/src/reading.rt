@@ -3,8 +3,8 @@ ghost use mathlib.Core.Path.{_≡_};
 ghost use Rattle.policy.specs.Reading.{numberOf, readPolicy, metOf};
 use super::PolicyRead;
 use super::codes;
+use super::reader::scan;
 use super::terms::analyse;
-use super::terms::scan;
 use super::words::counts_ok;
 use super::words::length_ok;
 use super::words::words_ok;
@@ -22,10 +22,10 @@ pub fn read(users: u8, roles: u8, words: &[u32]) -> PolicyRead
     if !words_ok(users, roles, words) {
         return PolicyRead::Refused(codes::WORD);
     }
-    if scan(words) as usize != words.len() {
+    let t = scan(words);
+    if t.words as usize != words.len() {
         return PolicyRead::Refused(codes::TERM);
     }
-    let t = analyse(words, 0, 0);
     if !t.formed {
         return PolicyRead::Refused(codes::UNIT);
     }

@@ -1,15 +1,15 @@
-// The term that the words are: its length, and what is found of it from the last word to the first.
+// The one term that the words are, analysed from the last word to the first.
 ghost use mathlib.Core.Path.{_≡_};
 ghost use Prim.Native.Nat.{_≤_};
 ghost use lib.ListN.{length};
-ghost use Rattle.policy.specs.Words.{first, decode};
-ghost use Rattle.policy.specs.Private.{meetsLeaf, sizeOf, putOf, placedOf, leafOf, overOf, besideOf, stepOf, analysisIn};
+ghost use Rattle.policy.specs.Words.{decode};
+ghost use Rattle.policy.specs.Private.{meetsLeaf, putOf, placedOf, leafOf, overOf, besideOf, stepOf, analysisIn};
 use super::kinds;
+use super::words::SIDES;
 use super::words::has_bit;
 use super::words::is_known;
 use super::words::kind_of;
 use super::words::operand_of;
-use super::words::sides_of;
 
 // A row of terms, read from the last word to the first, in bits: how many there are; whether each is a unit term and whether the
 // user meets it, the lowest bit for the first term; whether all are well formed; and masks over their words: those that begin unit
@@ -46,37 +46,6 @@ const NOTHING: Analysis = Analysis {
     units: 0,
     noted: 0,
 };
-
-// The word count of the first term of the words; 0 if they begin with none.
-pub(crate) fn scan(words: &[u32]) -> u8
-    requires { ⌜ length (now words) ≤ 31 ⌝ }
-    ensures { λ r. ⌜ r ≡ sizeOf (first (now (words .entry))) ⌝ }
-{
-    if words.len() == 0 {
-        return 0;
-    }
-    let k = kind_of(words[0]);
-    if !is_known(k) {
-        return 0;
-    }
-    let n = sides_of(k);
-    if n == 0 {
-        return 1;
-    }
-    let a = scan(&words[1..]);
-    if a == 0 {
-        return 0;
-    }
-    if n == 1 {
-        return 1 + a;
-    }
-    let second = 1 + a as usize;
-    let b = scan(&words[second..]);
-    if b == 0 {
-        return 0;
-    }
-    1 + a + b
-}
 
 // Whether a user who holds these roles meets a term of one word, of kind k with operand x.
 fn meets_leaf(k: usize, x: u32, user: u8, held: u16) -> bool
@@ -167,6 +136,8 @@ pub(crate) fn analyse(words: &[u32], user: u8, held: u16) -> Analysis
     requires { ⌜ length (now words) ≤ 31 ⌝ }
     ensures { λ r. ⌜ r ≡ analysisIn user held (decode (now (words .entry))) ⌝ }
 {
+    // one copy of the table for all words
+    let table = SIDES;
     let mut s = NO_TERMS;
     let mut i = words.len();
     while 0 < i {
@@ -176,7 +147,7 @@ pub(crate) fn analyse(words: &[u32], user: u8, held: u16) -> Analysis
         if !is_known(k) {
             return NOTHING;
         }
-        let n = sides_of(k);
+        let n = table[k];
         if s.terms < n {
             return NOTHING;
         }

@@ -1,19 +1,20 @@
 -- At each `return` the tests that led there say which number is due.
 use mathlib.Core.Path.{_≡_, refl, sym, _∙_, ap}
-use mathlib.Core.Bool.{true, So, _&&_, true≢false}
+use mathlib.Core.Bool.{true, So, _&&_, cond}
 use mathlib.Core.Option.{Option, some, none}
 use Prim.Native.Nat.{_≤_}
+use native.Mathlib.Omega.{arith}
 use lib.ListN.{length}
 use lib.Dec.{eqb}
 use borrow.Author.Needs.{needs}
 use borrow.Author.Tests.{eq-eqb, ne-eqb, not-true, not-false}
 use Rattle.soda.specs.Terms.{Term}
-use Rattle.policy.specs.Words.{decode}
+use Rattle.policy.specs.Words.{first, decode}
 use Rattle.policy.specs.Reading.{countOk, lengthOk, isTerm, isFormed, unitsOf, answer, readPolicy}
 use Rattle.policy.specs.Refusals.{code}
-use Rattle.policy.specs.Private.{analysisIn}
+use Rattle.policy.specs.Private.{firstIn}
 use Rattle.policy.specs.Accepted.{InLayout}
-use Rattle.policy.specs.declared.terms.Analysis.{Analysis}
+use Rattle.policy.specs.declared.reader.First.{First}
 use Rattle.policy.proofs.Scanning.{length-range, counts-most, whole}
 use Rattle.policy.proofs.Accepted.{lastRefusals, last-two}
 use Rattle.policy.proofs.reading.read.Statement.{statement}
@@ -73,43 +74,52 @@ late c = let a = given c .args in last-two (a .users) (a .roles) (a .words .now)
 short : (c : tie.Else3) → length (given c .args .words .now) ≤ 31
 short c = length-range (length (given c .args .words .now)) (is-long (long c)) .1
 
--- whether the words are one term
-is-term : (c : tie.After-scan) → let ws = given (c .before) .args .words .now in isTerm (decode ws) ≡ eqb (c .scan .result) (length ws)
-is-term c =
+-- the one term that the words are, if the first term has all of them
+is-first : (c : tie.After-scan) → let ws = given (c .before) .args .words .now in
+    decode ws ≡ cond (eqb (c .scan .result .words) (length ws)) (first ws) none
+is-first c =
     let ws = given (c .before) .args .words .now in
-    whole ws (length-range (length ws) (is-long (long (c .before))) .0) ∙ rw (c .scan .ensures)
+    whole ws (length-range (length ws) (is-long (long (c .before))) .0)
+    ∙ ap (λ (f : First). cond (eqb (f .words) (length ws)) (first ws) none) (sym (c .scan .ensures))
 
 returns-4 : tie.Need-returns-4
-returns-4 c = sym (late (c .before .before) ∙ rw (is-term (c .before) ∙ ne-eqb _ _ (c .if4 .taken)))
+returns-4 c =
+    let d = c .before .before in
+    let e : decode (given (d .before) .args .words .now) ≡ none = is-first d ∙ rw (ne-eqb _ _ (c .if4 .taken)) in
+    sym (late (d .before) ∙ rw e)
 
--- what is found of a term, as the answer asks for it
-found : (x : Option Term) → isTerm x ≡ true → (isFormed x ≡ analysisIn 0 0 x .formed) × (unitsOf x ≡ analysisIn 0 0 x .units)
-found none e = absurd (true≢false (sym e))
-found (some φ) e = (refl, refl)
+-- what is read of a term, as the answer asks for it
+found : (x : Option Term) → (firstIn x .words ≡ 0 → ⊥) → (isTerm x ≡ true) × (isFormed x ≡ firstIn x .formed) × (unitsOf x ≡ firstIn x .units)
+found none n = absurd (n refl)
+found (some φ) n = (refl, refl, refl)
 
-abbrev scanned : tie.After-analyse → tie.After-scan
+-- all words are those of the first term
+abbrev scanned : tie.Else4 → tie.After-scan
 scanned c = c .before .before
 
-one : (c : tie.After-analyse) → let x = decode (given (scanned c .before) .args .words .now) in
-    let t = c .analyse .result in
+one : (c : tie.Else4) → let x = decode (given (scanned c .before) .args .words .now) in
+    let t = scanned c .scan .result in
     (isTerm x ≡ true) × (isFormed x ≡ t .formed) × (unitsOf x ≡ t .units)
 one c =
-    let x = decode (given (scanned c .before) .args .words .now) in
-    let i = is-term (scanned c) ∙ eq-eqb _ _ (c .before .if4 .left) in
-    let j = found x i in
-    (i, j .0 ∙ ap (λ (t : Analysis). t .formed) (sym (c .analyse .ensures)), j .1 ∙ ap (λ (t : Analysis). t .units) (sym (c .analyse .ensures)))
+    let d = scanned c in
+    let ws = given (d .before) .args .words .now in
+    let e : decode ws ≡ first ws = is-first d ∙ rw (eq-eqb _ _ (c .if4 .left)) in
+    let f = d .scan .ensures in
+    let n = length-range (length ws) (is-long (long (d .before))) .0 in
+    let r = found (first ws) (λ z. omega (arith, n, c .if4 .left, ap (λ (f : First). f .words) f)) in
+    (ap isTerm e ∙ r .0, ap isFormed e ∙ r .1 ∙ ap (λ (f : First). f .formed) (sym f), ap unitsOf e ∙ r .2 ∙ ap (λ (f : First). f .units) (sym f))
 
 returns-5 : tie.Need-returns-5
 returns-5 c =
-    let j = c .before .before in
-    let o = one j in
-    sym (late (scanned j .before) ∙ rw (o .0, o .1 ∙ not-true (j .analyse .result .formed) (c .if5 .taken)))
+    let e = c .before .before in
+    let o = one e in
+    sym (late (scanned e .before) ∙ rw (o .0, o .1 ∙ not-true (scanned e .scan .result .formed) (c .if5 .taken)))
 
 returns-6 : tie.Need-returns-6
 returns-6 c =
-    let j = c .before .before in
-    let o = one j in
-    sym (late (scanned j .before) ∙ rw (o .0, o .1 ∙ not-false (j .analyse .result .formed) (c .if5 .left), o .2))
+    let e = c .before .before in
+    let o = one e in
+    sym (late (scanned e .before) ∙ rw (o .0, o .1 ∙ not-false (scanned e .scan .result .formed) (c .if5 .left), o .2))
 
 pub read-spec : {M : Type 1} → statement M
 read-spec =
@@ -124,6 +134,5 @@ read-spec =
     (λ c κs. short c)
     (λ c. search needs)
     returns-4
-    (λ c κs. short (c .before .before))
     returns-5
     returns-6)

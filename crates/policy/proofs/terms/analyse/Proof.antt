@@ -1,21 +1,23 @@
 -- The invariant: the words from i on are a row of terms, and the stack is what is kept of it.
-use mathlib.Core.Path.{_≡_, sym, _∙_, ap}
+use mathlib.Core.Path.{_≡_, refl, sym, _∙_, ap}
 use mathlib.Core.Bool.{true}
 use Prim.Native.Nat.{_-_, _≤_}
 use native.Mathlib.Omega.{arith}
 use lib.ListN.{length}
 use borrow.Author.Needs.{needs}
 use borrow.Author.Tests.{not-true, not-false}
+use Rattle.policy.specs.Words.{sides}
 use Rattle.policy.specs.Private.{known, analysisIn}
+use Rattle.policy.proofs.Grammar.{known-low}
 use Rattle.policy.proofs.Stacks.{Read, begin, few-terms, stops-unknown, stops-short, goes-on, more, one}
 use Rattle.policy.proofs.terms.analyse.Statement.{statement}
 use Rattle.policy.proofs.terms.analyse.Tie as tie
 
 abbrev Inv-loop : tie.InvT-loop
-Inv-loop words user held s₀ i₀ s i = (i ≤ length words) × Read user held words i s
+Inv-loop words user held table s₀ i₀ s i = (i ≤ length words) × Read user held words i s
 
 abbrev μ-loop : tie.MeasureT-loop
-μ-loop words user held s₀ i₀ s i = i
+μ-loop words user held table s₀ i₀ s i = i
 
 loop-holds : tie.Need-loop-holds Inv-loop μ-loop
 loop-holds c = let a = c .before .args in (omega arith, begin (a .user) (a .held) (a .words .now))
@@ -43,20 +45,22 @@ returns c =
 is-known : (c : tie.Else1 Inv-loop μ-loop) → known (read c .kind-of .result) ≡ true
 is-known c = sym (c .before .is-known .ensures) ∙ not-false (c .before .is-known .result) (c .if1 .left)
 
+array-read-n : tie.Need-array-read-n Inv-loop μ-loop
+array-read-n c = known-low (read c .kind-of .result) (is-known c)
+
 returns-2 : tie.Need-returns-2 Inv-loop μ-loop
 returns-2 c =
-    let n = c .before .before .sides-of in
-    let e = c .before .before .before in
+    let e = c .before .before in
     let k = read e .kind-of in
     let l = place (read e) in
     let at = l .loop in
     let a = start l .args in
     sym (ap (analysisIn (a .user) (a .held)) (stops-short (a .user) (a .held) (a .words .now) (at .inv .1) (at .i - 1) (k .result) (omega arith) (k .ensures)
-    (n .result) (is-known e) (n .ensures) (c .if2 .taken)))
+    (sides (k .result)) (is-known e) refl (c .if2 .taken)))
 
 -- the row has the word's sides
 abbrev fitting : tie.Else2 Inv-loop μ-loop → tie.Else1 Inv-loop μ-loop
-fitting c = c .before .before .before
+fitting c = c .before .before
 
 step-requires : tie.Need-step-requires Inv-loop μ-loop
 step-requires c κs =
@@ -68,7 +72,6 @@ step-requires c κs =
 loop-again : tie.Need-loop-again Inv-loop μ-loop
 loop-again c =
     let f = c .before .before in
-    let n = f .before .before .sides-of in
     let e = fitting f in
     let k = read e .kind-of in
     let l = place (read e) in
@@ -77,7 +80,7 @@ loop-again c =
     let a = s .args in (
       omega arith,
       rw (c .step .ensures, c .before .operand-of .ensures)
-          (goes-on (a .user) (a .held) (a .words .now) (at .inv .1) (at .i - 1) (k .result) (omega arith) (k .ensures) (n .result) (is-known e) (n .ensures)
+          (goes-on (a .user) (a .held) (a .words .now) (at .inv .1) (at .i - 1) (k .result) (omega arith) (k .ensures) (sides (k .result)) (is-known e) refl
           (omega arith) (s .pre)),
     )
 
@@ -113,7 +116,7 @@ analyse-spec =
     (λ c κs. search needs)
     (λ c κs. search needs)
     returns
-    (λ c κs. search needs)
+    array-read-n
     returns-2
     (λ c κs. search needs)
     step-requires

@@ -11,16 +11,19 @@ use borrow.Fn.PlainCycle.{Measures, is, falls, and}
 use Rattle.soda.proofs.Lists.{from-length}
 use Rattle.soda.specs.Lists.{from}
 use Rattle.policy.specs.Words.{first}
-use Rattle.policy.specs.Private.{sizeOf}
+use Rattle.policy.specs.Private.{firstIn}
+use Rattle.policy.specs.declared.reader.First.{First}
 use Rattle.policy.proofs.Scanning.{Word, word-known, word-unknown, no-words, first-within, scan-leaf, scan-missing, scan-one, scan-missing-second, scan-two}
-use Rattle.policy.proofs.terms.scan.Reads as scan
-use Rattle.policy.proofs.terms.scan.Kinds as scan-kinds
-use Rattle.policy.proofs.terms.+scan.Lts-scan as lts
+use Rattle.policy.proofs.reader.scan.Reads as scan
+use Rattle.policy.proofs.reader.scan.Kinds as scan-kinds
+use Rattle.policy.proofs.reader.+scan.Lts-scan as lts
+use Rattle.policy.proofs.reader.over_side.Reads as over-side
+use Rattle.policy.proofs.reader.beside_sides.Reads as beside-sides
 use Rattle.policy.proofs.words.is_known.Reads as is-known
 use Rattle.policy.proofs.words.kind_of.Reads as kind-of
 use Rattle.policy.proofs.words.sides_of.Reads as sides-of
-use Rattle.policy.proofs.terms.+scan.{statement}
-use Rattle.policy.proofs.terms.+scan.Tie.{close}
+use Rattle.policy.proofs.reader.+scan.{statement}
+use Rattle.policy.proofs.reader.+scan.Tie.{close}
 
 abbrev μ : Measures 1 scan-kinds.ps ℕ
 μ κs a = length (a .0 .now)
@@ -40,12 +43,16 @@ module _ (t : ℕ) where
     sides-of.Learnt,
     and 1 scan-kinds.ps (falls 1 scan-kinds.ps _<_ μ t) scan.Pre,
     scan.Post,
+    over-side.Asked,
+    over-side.Learnt,
+    beside-sides.Asked,
+    beside-sides.Learnt,
   )
 
   returns : lts.Need-returns calls at scan.Post
   returns c =
       let a = c .before .before .args in
-      sym (ap (λ (ws : List ℕ). sizeOf (first ws)) (no-words (a .words .now) (c .if1 .taken)))
+      sym (ap (λ (ws : List ℕ). firstIn (first ws)) (no-words (a .words .now) (c .if1 .taken)))
 
   -- where the first word's kind is read, and the start
   abbrev some : lts.After-kind-of calls at scan.Post → lts.Else1 calls at scan.Post
@@ -58,7 +65,7 @@ module _ (t : ℕ) where
   returns-2 c =
       let r = c .before .before in
       let k = r .kind-of in
-      sym (ap sizeOf (word-unknown (given r .args .words .now) (k .result) (some r .if1 .left) (k .ensures)
+      sym (ap firstIn (word-unknown (given r .args .words .now) (k .result) (some r .if1 .left) (k .ensures)
       (sym (c .before .is-known .ensures) ∙ not-true (c .before .is-known .result) (c .if2 .taken))))
 
   abbrev read : lts.After-sides-of calls at scan.Post → lts.After-kind-of calls at scan.Post
@@ -87,58 +94,72 @@ module _ (t : ℕ) where
   abbrev known : lts.After-scan calls at scan.Post → lts.After-sides-of calls at scan.Post
   known c = c .before .before .before
 
+  abbrev whole : lts.After-scan calls at scan.Post → List ℕ
+  whole c = start (known c) .args .words .now
+
   returns-4 : lts.Need-returns-4 calls at scan.Post
   returns-4 c =
-      let w = known (c .before) in
-      scan-missing (start w .args .words .now) (word w) (c .before .before .before .if3 .left) (sym (c .before .scan .ensures) ∙ c .if4 .taken)
+      let e = c .before .before in
+      scan-missing (whole e) (word (known e)) (e .before .before .if3 .left) (sym (ap (λ (f : First). f .words) (e .scan .ensures)) ∙ c .if4 .taken)
 
   -- how long the first side may be
-  within : (c : lts.After-scan calls at scan.Post) → (1 + c .scan .result ≤ length (start (known c) .args .words .now)) × (length (start (known c) .args .words .now) ≤ 31)
+  within : (c : lts.After-scan calls at scan.Post) → (1 + c .scan .result .words ≤ length (whole c)) × (length (whole c) ≤ 31)
   within c =
-      let ws : List ℕ = start (known c) .args .words .now in
-      (omega (arith, word (known c) .inside, from-length 1 ws, first-within (from 1 ws), c .scan .ensures), start (known c) .pre .1)
+      let ws : List ℕ = whole c in
+      (omega (arith, word (known c) .inside, from-length 1 ws, first-within (from 1 ws), ap (λ (f : First). f .words) (c .scan .ensures)), start (known c) .pre .1)
+
+  -- the first side is there
+  abbrev side : lts.Else4 calls at scan.Post → lts.After-scan calls at scan.Post
+  side c = c .before .before
 
   returns-5 : lts.Need-returns-5 calls at scan.Post
   returns-5 c =
-      let e = c .before .before in
-      scan-one (start (known e) .args .words .now) (word (known e)) (e .scan .result) (e .scan .ensures) (c .before .if4 .left) (c .if5 .taken)
+      let f = c .before .before in
+      let e = side f in
+      c .over-side .ensures
+      ∙ scan-one (whole e) (word (known e)) (e .scan .result) (e .scan .ensures) (f .if4 .left) (c .before .if5 .taken) (omega (arith, within e))
 
   scan-requires-2 : lts.Need-scan-requires-2 calls at scan.Post
   scan-requires-2 c κs =
-      let e = c .before .before .before in
+      let e = side (c .before .before .before) in
       let s = start (known e) in
-      let l = from-length (1 + e .scan .result) (s .args .words .now) in
+      let l = from-length (1 + e .scan .result .words) (s .args .words .now) in
       (omega (arith, word (known e) .inside, s .pre .0), omega (arith, s .pre .1))
+
+  -- where the second side is read
+  abbrev parted : lts.After-scan2 calls at scan.Post → lts.Else5 calls at scan.Post
+  parted c = c .before .before .before
 
   returns-6 : lts.Need-returns-6 calls at scan.Post
   returns-6 c =
-      let g = c .before .before .before in
-      let e = g .before .before in
-      scan-missing-second (start (known e) .args .words .now) (word (known e)) (e .scan .result) (e .scan .ensures) (g .before .if4 .left)
-      (e .before .before .if3 .left) (g .if5 .left) (sym (c .before .scan2 .ensures) ∙ c .if6 .taken)
+      let d = c .before .before in
+      let g = parted d in
+      let e = side (g .before) in
+      scan-missing-second (whole e) (word (known e)) (e .scan .result) (e .scan .ensures) (g .before .if4 .left)
+      (e .before .before .if3 .left) (g .if5 .left) (sym (ap (λ (f : First). f .words) (d .scan2 .ensures)) ∙ c .if6 .taken)
 
   -- how long both sides may be
-  abbrev first-side : lts.After-scan2 calls at scan.Post → lts.After-scan calls at scan.Post
-  first-side c = c .before .before .before .before
-
-  within-2 : (c : lts.After-scan2 calls at scan.Post) → 1 + first-side c .scan .result + c .scan2 .result ≤ 31
+  within-2 : (c : lts.After-scan2 calls at scan.Post) → side (parted c .before) .scan .result .words + c .scan2 .result .words ≤ 30
   within-2 c =
-      let e = first-side c in
-      let ws : List ℕ = start (known e) .args .words .now in
+      let e = side (parted c .before) in
+      let ws : List ℕ = whole e in
       omega (
         arith,
         within e,
-        from-length (1 + e .scan .result) ws,
-        first-within (from (1 + e .scan .result) ws),
-        c .scan2 .ensures,
+        from-length (1 + e .scan .result .words) ws,
+        first-within (from (1 + e .scan .result .words) ws),
+        ap (λ (f : First). f .words) (c .scan2 .ensures),
       )
 
   returns-7 : lts.Need-returns-7 calls at scan.Post
   returns-7 c =
-      let g = c .before .before .before in
-      let e = g .before .before in
-      scan-two (start (known e) .args .words .now) (word (known e)) (e .scan .result) (e .scan .ensures) (g .before .if4 .left)
-      (e .before .before .if3 .left) (g .if5 .left) (c .before .scan2 .result) (c .before .scan2 .ensures) (c .if6 .left)
+      let f = c .before in
+      let d = f .before .before in
+      let g = parted d in
+      let e = side (g .before) in
+      c .beside-sides .ensures
+      ∙ scan-two (whole e) (word (known e)) (e .scan .result) (e .scan .ensures) (g .before .if4 .left)
+      (e .before .before .if3 .left) (g .if5 .left) (d .scan2 .result) (d .scan2 .ensures) (f .if6 .left) (omega (arith, within-2 d))
 
 pub +scan-spec : {M : Type 1} → statement M
 +scan-spec = close μ λ t. lts.spec (calls t) (at t) scan.Post
@@ -154,16 +175,15 @@ pub +scan-spec : {M : Type 1} → statement M
     (λ c. search needs)
     (scan-requires t)
     (returns-4 t)
-    (λ c. omega (arith, within t (c .before .before)))
+    (λ c κs. omega (arith, within t (side t (c .before))))
     (returns-5 t)
     (λ c. search needs)
-    (λ c. omega (arith, within t (c .before .before)))
-    (λ c. omega (arith, within t (c .before .before)))
-    (λ c. within t (c .before .before) .0)
-    (λ c. within t (c .before .before) .0)
+    (λ c. omega (arith, within t (side t (c .before .before))))
+    (λ c. omega (arith, within t (side t (c .before .before))))
+    (λ c. within t (side t (c .before .before)) .0)
+    (λ c. within t (side t (c .before .before)) .0)
     (λ c. search needs)
     (scan-requires-2 t)
     (returns-6 t)
-    (λ c. omega (arith, within-2 t (c .before)))
-    (λ c. omega (arith, within-2 t (c .before)))
+    (λ c κs. within-2 t (c .before .before))
     (returns-7 t)
