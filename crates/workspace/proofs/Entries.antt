@@ -1,7 +1,7 @@
 -- What stands in the tables: a set entered, and the sets of one action more.
 use mathlib.Core.Path.{_≡_, refl, sym, _∙_, ap, ap₂, subst}
 use mathlib.Core.Bool.{Bool, true, false, _&&_, _||_, and-true, and-assoc, or-false}
-use mathlib.Core.List.{List, [], _∷_, _++_, map}
+use mathlib.Core.List.{List, [], _∷_, _++_, map, Perm}
 use mathlib.Core.Logic.{_⊎_, inl, inr}
 use Prim.Native.Nat.{ℕ, zero, suc, _+_, _/_, _^_, _≤_, _<_}
 use native.Mathlib.Nat.{eq-or-lt-of-le, pow-suc, lt-of-lt-of-le}
@@ -18,12 +18,15 @@ use Rattle.soda.specs.Tables.{acts}
 use Rattle.soda.proofs.Bools.{same-test, eq-so, so-eq}
 use Rattle.soda.proofs.Bits.{bit-number}
 use Rattle.soda.proofs.Splits.{any-append}
+use Rattle.policy.specs.Shapes.{rightSides}
 use Rattle.workspace.specs.Workspace.{range, select, judged, rowOf}
-use Rattle.workspace.specs.Private.{place, Unpacked, Next, Suited, Acting, Noted, RowIs, RowOf, Tables, tables, Long, Entry, Known, Cleared, Kept, Entered, Added, AddedAll}
+use Rattle.workspace.specs.Private.{place, Unpacked, Next, AlikePlaces, Twin, Suited, Acting, Noted, RowIs, RowOf, StoredIs, StoredOf, Tables, tables, Long, Entry, Known, Cleared, Kept, Entered, Added, AddedAll}
 use Rattle.soda.specs.declared.Action.{Action}
 use Rattle.workspace.specs.declared.masks.Masks.{Masks}
+use Rattle.workspace.specs.declared.tables.Stored.{Stored}
 use Rattle.workspace.proofs.Digits.{lt-or-le, bit-and, bit-or, bit-shr, bit-power, bit-ext}
 use Rattle.workspace.proofs.Select.{select-next}
+use Rattle.workspace.proofs.Exchange.{twin-perm, judged-twin, row-twin}
 
 -- ── a row as a word of the workspace ──
 pub length-range : (i n : ℕ) → length (range i n) ≡ n
@@ -61,15 +64,55 @@ row-number e φ l s row right w short r c h = bit-ext 32 w (number digits) h fit
 before : {x s : ℕ} → x < s → (l : List ℕ) (v : ℕ) → getD (set l s v) x 0 ≡ getD l x 0
 before {x} {s} h l v = getD-set-other l s x v 0 (λ q. omega arith)
 
-module _ (m : Masks) (ops : List ℕ) (s who met : ℕ) (t : Tables) (row right low high : ℕ)
-    (h : s < 4096) (n : Long (s + 1) t) (r : RowOf m ops (t .left) (t .right) (t .users) met s row right)
-    (is-low : Unpacked false row low) (is-high : Unpacked true row high) (low-fits : low < 2 ^ 32) (high-fits : high < 2 ^ 32) where
-  abbrev pub after : Tables
-  after = tables (set (t .left) s (row / 2 ^ 1)) (set (t .right) s right) (set (t .users) s who) (set (t .met) s met) (set (set (t .workspace) s low) (4096 + s) high)
+-- what is stored of a twin's row
+pub stored-twin : (m : Masks) (ops left right users workspace : List ℕ) (met s twin : ℕ) → twin < s
+    → StoredOf m ops left right users workspace met s twin
+    (record { left = getD left twin 0; right = getD right twin 0; satisfied = getD workspace twin 0; possible = getD workspace (4096 + twin) 0 })
+stored-twin m ops left right users workspace met s twin h φ l u f g w n p = record {
+  sides = λ who acting.
+      let b = g twin h in
+      record {
+        lefts = λ e i c. b .lefts e i c ∙ judged-twin φ (select twin l) (select s l) p e (1 + i);
+        possible = λ i c. b .possible i c ∙ judged-twin φ (select twin l) (select s l) p true i;
+        rights = λ e i c o. b .rights e i c o ∙ judged-twin φ (select twin l) (select s l) p e (getD (rightSides 0 φ) i 0);
+        acting = acting;
+      };
+  satisfied = w twin h .0 ∙ row-twin false φ l twin s p;
+  possible = w twin h .1 ∙ row-twin true φ l twin s p;
+}
 
-  pub entered : Entered m ops s who met t after
+-- and of a row from its parts
+pub stored-row : (m : Masks) (ops left right users workspace : List ℕ) (met s twin row row-right low high : ℕ) → RowOf m ops left right users met s row row-right
+    → Unpacked false row low → Unpacked true row high → low < 2 ^ 32 → high < 2 ^ 32
+    → StoredOf m ops left right users workspace met s twin (record { left = row / 2 ^ 1; right = row-right; satisfied = low; possible = high })
+stored-row m ops left right users workspace met s twin row row-right low high r is-low is-high low-fits high-fits φ l u f g w n p =
+    let here = r φ l u f g n in
+    record {
+      sides = λ who acting. record {
+        lefts = λ e i b. let z : 1 + place e i ≡ place e (1 + i) = omega arith in bit-shr (place e i) 1 row ∙ ap (λ q. bit q row) z ∙ here .here e (1 + i) b;
+        possible = λ i b. let z : 1 + (31 + i) ≡ place true i = omega arith in bit-shr (31 + i) 1 row ∙ ap (λ q. bit q row) z ∙ here .here true i b;
+        rights = here .sided;
+        acting = acting;
+      };
+      satisfied = row-number false φ l s row row-right low (u .short) here is-low low-fits;
+      possible = row-number true φ l s row row-right high (u .short) here is-high high-fits;
+    }
+
+module _ (m : Masks) (ops : List ℕ) (s who met twin : ℕ) (t : Tables) (row : Stored)
+    (h : s < 4096) (n : Long (s + 1) t) (r : StoredOf m ops (t .left) (t .right) (t .users) (t .workspace) met s twin row) where
+  abbrev low : ℕ
+  low = row .satisfied
+
+  abbrev high : ℕ
+  high = row .possible
+
+  abbrev pub after : Tables
+  after = tables (set (t .left) s (row .left)) (set (t .right) s (row .right)) (set (t .users) s who) (set (t .met) s met) (set (t .twins) s twin)
+      (set (set (t .workspace) s low) (4096 + s) high)
+
+  pub entered : Entered m ops s who met twin t after
   entered = record {
-    known = λ φ l u f a k g x b. entry φ l u f a k g x (eq-or-lt-of-le (le x b));
+    known = λ φ l u f a k p g x b. entry φ l u f a k p g x (eq-or-lt-of-le (le x b));
     kept = record {
       low = λ k a b. getD-set-other (set (t .workspace) s low) (4096 + s) k high 0 (λ q. omega arith) ∙ getD-set-other (t .workspace) s k low 0 (λ q. omega arith);
       high = λ k a. getD-set-other (set (t .workspace) s low) (4096 + s) k high 0 (λ q. omega arith) ∙ getD-set-other (t .workspace) s k low 0 (λ q. omega arith);
@@ -79,34 +122,29 @@ module _ (m : Masks) (ops : List ℕ) (s who met : ℕ) (t : Tables) (row right 
       le : (x : ℕ) → x < s + 1 → x ≤ s
       le x b = omega arith
 
-      entry : (φ : Term) (l : List Action) → Suited φ m ops → s < 2 ^ length l → Acting (select s l) who → Noted (select s l) met → Known φ l t s
-          → (x : ℕ) → (x ≡ s) ⊎ (x < s) → Entry φ l after x
-      entry φ l u f a k g x (inl q) = subst (Entry φ l after) (sym q) (record {
+      entry : (φ : Term) (l : List Action) → Suited φ m ops → s < 2 ^ length l → Acting (select s l) who → Noted (select s l) met → Perm (select twin l) (select s l)
+          → Known φ l t s → (x : ℕ) → (x ≡ s) ⊎ (x < s) → Entry φ l after x
+      entry φ l u f a k p g x (inl q) = subst (Entry φ l after) (sym q) (record {
         sides = rw (
-          getD-set-same (t .left) s (row / 2 ^ 1) 0 (omega (arith, n .left)),
-          getD-set-same (t .right) s right 0 (omega (arith, n .right)),
+          getD-set-same (t .left) s (row .left) 0 (omega (arith, n .left)),
+          getD-set-same (t .right) s (row .right) 0 (omega (arith, n .right)),
           getD-set-same (t .users) s who 0 (omega (arith, n .users)),
-        )
-            (record {
-              lefts = λ e i b. let z : 1 + place e i ≡ place e (1 + i) = omega arith in bit-shr (place e i) 1 row ∙ ap (λ p. bit p row) z ∙ here .here e (1 + i) b;
-              possible = λ i b. let z : 1 + (31 + i) ≡ place true i = omega arith in bit-shr (31 + i) 1 row ∙ ap (λ p. bit p row) z ∙ here .here true i b;
-              rights = here .sided;
-              acting = a;
-            });
+        ) (here .sides who a);
         noted = rw (getD-set-same (t .met) s met 0 (omega (arith, n .met))) k;
+        twin = rw (getD-set-same (t .twins) s twin 0 (omega (arith, n .twins))) p;
         satisfied = getD-set-other (set (t .workspace) s low) (4096 + s) s high 0 (λ z. omega arith) ∙ getD-set-same (t .workspace) s low 0 (omega (arith, n .workspace))
-            ∙ row-number false φ l s row right low (u .short) here is-low low-fits;
-        possible = getD-set-same (set (t .workspace) s low) (4096 + s) high 0 (omega (arith, n .workspace, length-set (t .workspace) s low))
-            ∙ row-number true φ l s row right high (u .short) here is-high high-fits;
+            ∙ here .satisfied;
+        possible = getD-set-same (set (t .workspace) s low) (4096 + s) high 0 (omega (arith, n .workspace, length-set (t .workspace) s low)) ∙ here .possible;
       })
         where
-          here : RowIs φ (select s l) row right
-          here = r φ l u f (λ y b. g y b .sides) k
-      entry φ l u f a k g x (inr q) =
+          here : StoredIs φ l s row
+          here = r φ l u f (λ y b. g y b .sides) (λ y b. (g y b .satisfied, g y b .possible)) k p
+      entry φ l u f a k p g x (inr q) =
           let b = g x q in
           record {
-            sides = rw (before q (t .left) (row / 2 ^ 1), before q (t .right) right, before q (t .users) who) (b .sides);
+            sides = rw (before q (t .left) (row .left), before q (t .right) (row .right), before q (t .users) who) (b .sides);
             noted = rw (before q (t .met) met) (b .noted);
+            twin = rw (before q (t .twins) twin) (b .twin);
             satisfied = getD-set-other (set (t .workspace) s low) (4096 + s) x high 0 (λ z. omega arith) ∙ before q (t .workspace) low ∙ b .satisfied;
             possible = getD-set-other (set (t .workspace) s low) (4096 + s) (4096 + x) high 0 (λ z. omega arith)
                 ∙ getD-set-other (t .workspace) s (4096 + x) low 0 (λ z. omega arith) ∙ b .possible;
@@ -155,10 +193,11 @@ pub record Same (t t′ : Tables) : Type 0 where
   pub right : length (t′ .right) ≡ length (t .right)
   pub users : length (t′ .users) ≡ length (t .users)
   pub met : length (t′ .met) ≡ length (t .met)
+  pub twins : length (t′ .twins) ≡ length (t .twins)
   pub workspace : length (t′ .workspace) ≡ length (t .workspace)
 
 pub same-refl : (t : Tables) → Same t t
-same-refl t = record { left = refl; right = refl; users = refl; met = refl; workspace = refl }
+same-refl t = record { left = refl; right = refl; users = refl; met = refl; twins = refl; workspace = refl }
 
 -- tables of the same lengths have a place for as many sets or fewer
 pub long-same : {k n : ℕ} {t t′ : Tables} → k ≤ n → Long n t → Same t t′ → Long k t′
@@ -167,42 +206,44 @@ long-same h n s = record {
   right = omega (arith, n .right, s .right);
   users = omega (arith, n .users, s .users);
   met = omega (arith, n .met, s .met);
+  twins = omega (arith, n .twins, s .twins);
   workspace = omega (arith, n .workspace, s .workspace);
 }
 
 -- new tables of n places, with a workspace
 pub long-blank : {j : ℕ} (n : ℕ) {workspace : List ℕ} → j ≤ n → 8192 ≤ length workspace
-    → Long j (tables (replicate n 0) (replicate n 0) (replicate n 0) (replicate n 0) workspace)
+    → Long j (tables (replicate n 0) (replicate n 0) (replicate n 0) (replicate n 0) (replicate n 0) workspace)
 long-blank n h w = let b : length {A = ℕ} (replicate n 0) ≡ n = length-replicate n 0 in record {
   left = omega arith;
   right = omega arith;
   users = omega arith;
   met = omega arith;
+  twins = omega arith;
   workspace = w;
 }
 
 pub same-trans : {t t′ t″ : Tables} → Same t t′ → Same t′ t″ → Same t t″
-same-trans p q = record { left = q .left ∙ p .left; right = q .right ∙ p .right; users = q .users ∙ p .users; met = q .met ∙ p .met; workspace = q .workspace ∙ p .workspace }
+same-trans p q = record { left = q .left ∙ p .left; right = q .right ∙ p .right; users = q .users ∙ p .users; met = q .met ∙ p .met; twins = q .twins ∙ p .twins; workspace = q .workspace ∙ p .workspace }
 
 -- where the loop over the sets t of the actions before place j is
-pub record Adding (m : Masks) (ops : List ℕ) (j : ℕ) (a : Action) (before after : Tables) (user top t : ℕ) : Type 0 where
+pub record Adding (m : Masks) (ops : List ℕ) (j : ℕ) (a : Action) (alike : ℕ) (before after : Tables) (user top t : ℕ) : Type 0 where
   pub is-user : user ≡ 2 ^ a .user
   pub is-top : top ≡ 2 ^ j
   pub bound : t ≤ top
   pub lengths : Same before after
-  pub added : Added m ops j a (top + t) before after
+  pub added : Added m ops j a alike (top + t) before after
 
-module _ (m : Masks) (ops : List ℕ) (j : ℕ) (a : Action) (T : Tables) (user top : ℕ) where
-  pub add-begin : user ≡ 2 ^ a .user → top ≡ 2 ^ j → Adding m ops j a T T user top 0
+module _ (m : Masks) (ops : List ℕ) (j : ℕ) (a : Action) (alike : ℕ) (T : Tables) (user top : ℕ) where
+  pub add-begin : user ≡ 2 ^ a .user → top ≡ 2 ^ j → Adding m ops j a alike T T user top 0
   add-begin p q = let z : 2 ^ j ≡ top + 0 = omega arith in record {
     is-user = p;
     is-top = q;
     bound = omega arith;
     lengths = same-refl T;
-    added = record { known = λ φ l u h e k. subst (Known φ l T) z k; kept = kept-none (top + 0) (T .workspace) };
+    added = record { known = λ φ l u h e s k. subst (Known φ l T) z k; kept = kept-none (top + 0) (T .workspace) };
   }
 
-  module _ (t : ℕ) (T′ : Tables) (g : Adding m ops j a T T′ user top t) (h : t < top) where
+  module _ (t : ℕ) (T′ : Tables) (g : Adding m ops j a alike T T′ user top t) (h : t < top) where
     pub add-next : Next (top + t) t
     add-next = record { last = j; is = ap (λ n. n + t) (g .is-top); below = subst (λ n. t < n) (g .is-top) h }
 
@@ -212,30 +253,36 @@ module _ (m : Masks) (ops : List ℕ) (j : ℕ) (a : Action) (T : Tables) (user 
     pub add-below : j < 12 → top + t < 4096
     add-below b = omega (arith, add-room, pow-mono {i = j + 1} {j = 12} (omega arith))
 
-    pub add-turn : (T″ : Tables) → Same T′ T″
-        → Entered m ops (top + t) (bitOr (getD (T′ .users) t 0) user) (bitAnd (getD (T′ .met) t 0) (a .met)) T′ T″ → Adding m ops j a T T″ user top (t + 1)
-    add-turn T″ s e = let z : top + t + 1 ≡ top + (t + 1) = omega arith in record {
+    pub add-turn : (T″ : Tables) (twin : ℕ) → Same T′ T″ → Twin alike top t (getD (T′ .twins) t 0) twin
+        → Entered m ops (top + t) (bitOr (getD (T′ .users) t 0) user) (bitAnd (getD (T′ .met) t 0) (a .met)) twin T′ T″ → Adding m ops j a alike T T″ user top (t + 1)
+    add-turn T″ twin s w e = let z : top + t + 1 ≡ top + (t + 1) = omega arith in record {
       is-user = g .is-user;
       is-top = g .is-top;
       bound = omega arith;
       lengths = same-trans (g .lengths) s;
-      added = subst (λ n. Added m ops j a n T T″) z (record {
+      added = subst (λ n. Added m ops j a alike n T T″) z (record {
         known = known;
         kept = kept-more (omega arith) (g .added .kept) (e .kept);
       });
     }
       where
-        known : (φ : Term) (l : List Action) → Suited φ m ops → j < length l → getD l j (record { user = 0; met = 0 }) ≡ a → Known φ l T (2 ^ j) → Known φ l T″ (top + t + 1)
-        known φ l u b d k = e .known φ l u fits acting noted before
+        known : (φ : Term) (l : List Action) → Suited φ m ops → j < length l → getD l j (record { user = 0; met = 0 }) ≡ a → AlikePlaces l j alike
+            → Known φ l T (2 ^ j) → Known φ l T″ (top + t + 1)
+        known φ l u b d s k = e .known φ l u fits acting noted alike-set before
           where
             before : Known φ l T′ (top + t)
-            before = g .added .known φ l u b d k
+            before = g .added .known φ l u b d s k
 
             fits : top + t < 2 ^ length l
             fits = omega (arith, g .is-top, pow-suc 2 j, pow-mono {i = suc j} {j = length l} b)
 
             chosen : select (top + t) l ≡ select t l ++ (a ∷ [])
             chosen = ap (λ n. select (n + t) l) (g .is-top) ∙ select-next l j t (record { user = 0; met = 0 }) b (subst (λ n. t < n) (g .is-top) h) ∙ ap (λ x. select t l ++ (x ∷ [])) d
+
+            alike-set : Perm (select twin l) (select (top + t) l)
+            alike-set = subst (λ n. Perm (select twin l) (select (n + t) l)) (sym (g .is-top))
+                (twin-perm l j t (getD (T′ .twins) t 0) alike twin b (subst (λ n. t < n) (g .is-top) h) s (before t (omega arith) .twin)
+                (subst (λ n. Twin alike n t (getD (T′ .twins) t 0) twin) (g .is-top) w))
 
             acting : Acting (select (top + t) l) (bitOr (getD (T′ .users) t 0) user)
             acting v =
@@ -249,11 +296,11 @@ module _ (m : Masks) (ops : List ℕ) (j : ℕ) (a : Action) (T : Tables) (user 
                 ∙ ap₂ _&&_ (before t (omega arith) .noted i c) (sym (and-true (bit i (a .met))))
                 ∙ sym (ap (all (λ x. bit i (x .met))) chosen ∙ all-append (λ (x : Action). bit i (x .met)) (select t l) (a ∷ []))
 
-  pub add-end : (t : ℕ) (T′ : Tables) → Adding m ops j a T T′ user top t → top ≤ t → Added m ops j a (2 ^ (j + 1)) T T′
+  pub add-end : (t : ℕ) (T′ : Tables) → Adding m ops j a alike T T′ user top t → top ≤ t → Added m ops j a alike (2 ^ (j + 1)) T T′
   add-end t T′ g l =
       let s : j + 1 ≡ suc j = omega arith in
       let e : top + t ≡ 2 ^ (j + 1) = omega (arith, g .is-top, g .bound, pow-suc 2 j, ap (λ n. 2 ^ n) s) in
-      subst (λ n. Added m ops j a n T T′) e (g .added)
+      subst (λ n. Added m ops j a alike n T T′) e (g .added)
 
 -- ── all actions ──
 -- where the loop over the actions is
@@ -266,13 +313,13 @@ module _ (m : Masks) (ops : List ℕ) (l : List Action) (taken : ℕ) (T : Table
   pub all-begin : AddingAll m ops l taken T T 0
   all-begin = record { bound = omega arith; lengths = same-refl T; added = record { known = λ φ u k. k; kept = kept-none 1 (T .workspace) } }
 
-  pub all-turn : (T′ T″ : Tables) (j : ℕ) → AddingAll m ops l taken T T′ j → j < taken → j < length l → Same T′ T″
-      → Added m ops j (getD l j (record { user = 0; met = 0 })) (2 ^ (j + 1)) T′ T″ → AddingAll m ops l taken T T″ (j + 1)
-  all-turn T′ T″ j f h b s a = record {
+  pub all-turn : (T′ T″ : Tables) (j alike : ℕ) → AddingAll m ops l taken T T′ j → j < taken → j < length l → Same T′ T″
+      → AlikePlaces l j alike → Added m ops j (getD l j (record { user = 0; met = 0 })) alike (2 ^ (j + 1)) T′ T″ → AddingAll m ops l taken T T″ (j + 1)
+  all-turn T′ T″ j alike f h b s w a = record {
     bound = omega arith;
     lengths = same-trans (f .lengths) s;
     added = record {
-      known = λ φ u k. a .known φ l u b refl (f .added .known φ u k);
+      known = λ φ u k. a .known φ l u b refl w (f .added .known φ u k);
       kept = kept-more (pow-mono {j = j + 1} (omega arith)) (f .added .kept) (a .kept);
     };
   }

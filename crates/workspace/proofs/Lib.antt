@@ -6,6 +6,7 @@ pub mod Complete
 pub mod Subterms
 pub mod Joint
 pub mod Judging
+pub mod Exchange
 pub mod Entries
 pub mod Columns
 pub mod Fillable

@@ -17,10 +17,10 @@ use Rattle.workspace.specs.Workspace.{select}
 use Rattle.workspace.proofs.Submask.{Within, within-half, within-digit, within-join, rest-half, rest-digit}
 
 -- the lowest digit
-is-odd : (n : ℕ) → n % 2 ≡ 1 → bit 0 n ≡ true
+pub is-odd : (n : ℕ) → n % 2 ≡ 1 → bit 0 n ≡ true
 is-odd n e = let k : n / 1 % 2 ≡ 1 = omega arith in ap (λ x. eqb x 1) k
 
-is-even : (n : ℕ) → n % 2 ≡ 0 → bit 0 n ≡ false
+pub is-even : (n : ℕ) → n % 2 ≡ 0 → bit 0 n ≡ false
 is-even n e = let k : n / 1 % 2 ≡ 0 = omega arith in ap (λ x. eqb x 1) k
 
 rest-of : (y n m d r : ℕ) → y % 2 ≡ n - m → d ≡ m → d + r ≡ n → r ≡ y / 1 % 2

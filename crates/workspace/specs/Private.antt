@@ -1,7 +1,7 @@
 -- What the fill's private functions compute: the digits of packed rows, the parts of a set, and what the tables hold.
 use mathlib.Core.Path.{_≡_}
 use mathlib.Core.Bool.{Bool, true, false, So, _&&_, _||_, cond}
-use mathlib.Core.List.{List}
+use mathlib.Core.List.{List, Perm}
 use Prim.Native.Nat.{ℕ, suc, _+_, _-_, _*_, _^_, _≤_, _<_}
 use lib.Bits.{bitAnd, bitOr}
 use lib.Dec.{eqb}
@@ -15,6 +15,7 @@ use Rattle.policy.specs.declared.Shape.{Shape}
 use Rattle.workspace.specs.Workspace.{select, judged, rowOf}
 use Rattle.soda.specs.declared.Action.{Action}
 use Rattle.workspace.specs.declared.masks.Masks.{Masks}
+use Rattle.workspace.specs.declared.tables.Stored.{Stored}
 
 -- ── packed rows ──
 -- where word i stands in a row: satisfied in digits 0 to 31, possible in digits 32 to 63
@@ -116,6 +117,22 @@ pub record Finished (base either both : ℕ) (places : List ℕ) (row right : �
   pub past : (e : Bool) (i : ℕ) → length places ≤ i → i < 32 → bit (place e i) row ≡ bit (place e i) base
   pub sided : (e : Bool) (i : ℕ) → i < length places → So (bit (place true i) either) → bit (place e i) right ≡ bit (place e (getD places i 0)) row
 
+-- ── twins ──
+-- by one user, who met the same unit terms
+abbrev pub isAlike : Action → Action → Bool
+isAlike a b = eqb (a .user) (b .user) && eqb (a .met) (b .met)
+
+-- r has places before j, at which stands the action of place j
+pub record AlikePlaces (l : List Action) (j r : ℕ) : Type 0 where
+  pub below : r < 2 ^ j
+  pub same : (k : ℕ) → So (bit k r) → (k < j) × (getD l k (record { user = 0; met = 0 }) ≡ getD l j (record { user = 0; met = 0 }))
+
+-- the set of t and the action of place j, where top is 2^j; that action with `twin`; or t with an action alike it that t lacks
+pub data Twin (alike top t twin : ℕ) : ℕ → Type 0 where
+  itself : Twin alike top t twin (top + t)
+  other-set : twin < t → Twin alike top t twin (top + twin)
+  other-action : (k : ℕ) → So (bit k alike) → bit k t ≡ false → Twin alike top t twin (2 ^ k + t)
+
 -- ── the tables ──
 -- the masks and the operators are those of the policy φ
 pub record Suited (φ : Term) (m : Masks) (ops : List ℕ) : Type 0 where
@@ -157,16 +174,31 @@ RowOf m ops left right users met s row row-right =
     (φ : Term) (l : List Action) → Suited φ m ops → s < 2 ^ length l
     → ((x : ℕ) → x < s → Sides φ (select x l) (getD left x 0) (getD right x 0) (getD users x 0)) → Noted (select s l) met → RowIs φ (select s l) row row-right
 
--- the tables: for each set the digits at left and right sides, its users, what all its actions met; and the workspace
+-- what is stored of the row of the set s
+pub record StoredIs (φ : Term) (l : List Action) (s : ℕ) (r : Stored) : Type 0 where
+  pub sides : (users : ℕ) → Acting (select s l) users → Sides φ (select s l) (r .left) (r .right) users
+  pub satisfied : r .satisfied ≡ rowOf false φ l s
+  pub possible : r .possible ≡ rowOf true φ l s
+
+-- so it must be where all sets before s are stored and `twin` has the actions of s
+abbrev pub StoredOf : Masks → List ℕ → List ℕ → List ℕ → List ℕ → List ℕ → ℕ → ℕ → ℕ → Stored → Type 0
+StoredOf m ops left right users workspace met s twin r =
+    (φ : Term) (l : List Action) → Suited φ m ops → s < 2 ^ length l
+    → ((x : ℕ) → x < s → Sides φ (select x l) (getD left x 0) (getD right x 0) (getD users x 0))
+    → ((x : ℕ) → x < s → (getD workspace x 0 ≡ rowOf false φ l x) × (getD workspace (4096 + x) 0 ≡ rowOf true φ l x))
+    → Noted (select s l) met → Perm (select twin l) (select s l) → StoredIs φ l s r
+
+-- the tables: for each set the digits at left and right sides, its users, what all its actions met, and a twin; and the workspace
 pub record Tables : Type 0 where
   pub left : List ℕ
   pub right : List ℕ
   pub users : List ℕ
   pub met : List ℕ
+  pub twins : List ℕ
   pub workspace : List ℕ
 
-abbrev pub tables : List ℕ → List ℕ → List ℕ → List ℕ → List ℕ → Tables
-tables left right users met workspace = record { left = left; right = right; users = users; met = met; workspace = workspace }
+abbrev pub tables : List ℕ → List ℕ → List ℕ → List ℕ → List ℕ → List ℕ → Tables
+tables left right users met twins workspace = record { left = left; right = right; users = users; met = met; twins = twins; workspace = workspace }
 
 -- each has a place for every set below n
 pub record Long (n : ℕ) (t : Tables) : Type 0 where
@@ -174,12 +206,14 @@ pub record Long (n : ℕ) (t : Tables) : Type 0 where
   pub right : n ≤ length (t .right)
   pub users : n ≤ length (t .users)
   pub met : n ≤ length (t .met)
+  pub twins : n ≤ length (t .twins)
   pub workspace : 8192 ≤ length (t .workspace)
 
 -- what stands in the tables for the set x of the actions l
 pub record Entry (φ : Term) (l : List Action) (t : Tables) (x : ℕ) : Type 0 where
   pub sides : Sides φ (select x l) (getD (t .left) x 0) (getD (t .right) x 0) (getD (t .users) x 0)
   pub noted : Noted (select x l) (getD (t .met) x 0)
+  pub twin : Perm (select (getD (t .twins) x 0) l) (select x l)
   pub satisfied : getD (t .workspace) x 0 ≡ rowOf false φ l x
   pub possible : getD (t .workspace) (4096 + x) 0 ≡ rowOf true φ l x
 
@@ -196,14 +230,16 @@ pub record Kept (n : ℕ) (before after : List ℕ) : Type 0 where
   pub low : (k : ℕ) → n ≤ k → k < 4096 → getD after k 0 ≡ getD before k 0
   pub high : (k : ℕ) → 4096 + n ≤ k → getD after k 0 ≡ getD before k 0
 
--- the set s is entered too: its users are `who`, and its actions all met `met`
-pub record Entered (m : Masks) (ops : List ℕ) (s who met : ℕ) (t t′ : Tables) : Type 0 where
-  pub known : (φ : Term) (l : List Action) → Suited φ m ops → s < 2 ^ length l → Acting (select s l) who → Noted (select s l) met → Known φ l t s → Known φ l t′ (s + 1)
+-- the set s is entered too: its users are `who`, its actions all met `met`, and they are those of `twin`
+pub record Entered (m : Masks) (ops : List ℕ) (s who met twin : ℕ) (t t′ : Tables) : Type 0 where
+  pub known : (φ : Term) (l : List Action) → Suited φ m ops → s < 2 ^ length l → Acting (select s l) who → Noted (select s l) met
+      → Perm (select twin l) (select s l) → Known φ l t s → Known φ l t′ (s + 1)
   pub kept : Kept (s + 1) (t .workspace) (t′ .workspace)
 
--- the sets below n are entered, for actions of which `a` stands at place j
-pub record Added (m : Masks) (ops : List ℕ) (j : ℕ) (a : Action) (n : ℕ) (t t′ : Tables) : Type 0 where
-  pub known : (φ : Term) (l : List Action) → Suited φ m ops → j < length l → getD l j (record { user = 0; met = 0 }) ≡ a → Known φ l t (2 ^ j) → Known φ l t′ n
+-- the sets below n are entered, for actions of which `a` stands at place j and at those of `alike`
+pub record Added (m : Masks) (ops : List ℕ) (j : ℕ) (a : Action) (alike n : ℕ) (t t′ : Tables) : Type 0 where
+  pub known : (φ : Term) (l : List Action) → Suited φ m ops → j < length l → getD l j (record { user = 0; met = 0 }) ≡ a → AlikePlaces l j alike
+      → Known φ l t (2 ^ j) → Known φ l t′ n
   pub kept : Kept n (t .workspace) (t′ .workspace)
 
 -- the sets below n are entered, where the empty set was

@@ -13,6 +13,7 @@ mod parts;
 mod rows;
 mod sizes;
 mod tables;
+mod twins;
 
 use sizes::fill_by;
 use soda::Action;

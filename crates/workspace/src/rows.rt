@@ -73,7 +73,7 @@ fn finish(base: u64, either: u64, both: u64, ops: &[u16]) -> Row
 }
 
 // The row of the set s, from the rows of its parts; t is s without its last action. No action satisfies nothing and is possible
-// for every term.
+// for every term. What is not possible for t, or for s without its first action, has no chance.
 pub(crate) fn row_of(
     m: Masks,
     ops: &[u16],

@@ -35,6 +35,7 @@ fn fill_six(m: Masks, ops: &[u16], actions: [Action; 12], taken: u8, workspace: 
     let mut right = [0u64; 64];
     let mut users = [0u16; 64];
     let mut met = [0u32; 64];
+    let mut twins = [0u16; 64];
     fill_tables(
         m,
         ops,
@@ -44,6 +45,7 @@ fn fill_six(m: Masks, ops: &[u16], actions: [Action; 12], taken: u8, workspace: 
         &mut right,
         &mut users,
         &mut met,
+        &mut twins,
         workspace,
     );
 }
@@ -57,6 +59,7 @@ fn fill_nine(m: Masks, ops: &[u16], actions: [Action; 12], taken: u8, workspace:
     let mut right = [0u64; 512];
     let mut users = [0u16; 512];
     let mut met = [0u32; 512];
+    let mut twins = [0u16; 512];
     fill_tables(
         m,
         ops,
@@ -66,6 +69,7 @@ fn fill_nine(m: Masks, ops: &[u16], actions: [Action; 12], taken: u8, workspace:
         &mut right,
         &mut users,
         &mut met,
+        &mut twins,
         workspace,
     );
 }
@@ -79,6 +83,7 @@ fn fill_twelve(m: Masks, ops: &[u16], actions: [Action; 12], taken: u8, workspac
     let mut right = [0u64; 4096];
     let mut users = [0u16; 4096];
     let mut met = [0u32; 4096];
+    let mut twins = [0u16; 4096];
     fill_tables(
         m,
         ops,
@@ -88,6 +93,7 @@ fn fill_twelve(m: Masks, ops: &[u16], actions: [Action; 12], taken: u8, workspac
         &mut right,
         &mut users,
         &mut met,
+        &mut twins,
         workspace,
     );
 }

@@ -3,58 +3,109 @@ ghost use mathlib.Core.Path.{_≡_};
 ghost use mathlib.Core.Bool.{true};
 ghost use Prim.Native.Nat.{_+_, _≤_, _<_, _^_};
 ghost use lib.Dec.{ltb};
-ghost use lib.ListN.{take};
+ghost use lib.ListN.{length, take};
 ghost use Rattle.soda.specs.Lists.{all};
-ghost use Rattle.workspace.specs.Private.{Next, Coded, tables, Long, Entered, Added, AddedAll, RowsStand};
+ghost use Rattle.workspace.specs.Private.{Next, Coded, StoredOf, tables, Long, Entered, Added, AddedAll, RowsStand};
 use super::masks::Masks;
 use super::masks::unpacked;
 use super::rows::row_of;
+use super::twins::alike_of;
+use super::twins::twin_of;
 use soda::Action;
 
-// Enters the row of the set s into the tables, with its users and the unit terms that all its actions met.
+// What the tables and the workspace keep of a row.
+struct Stored {
+    left: u64,
+    right: u64,
+    satisfied: u32,
+    possible: u32,
+}
+
+// What is kept of the row of the set s: what stands for a twin that is entered before it, or else what its parts give.
+fn stored_of(
+    m: Masks,
+    ops: &[u16],
+    left: &[u64],
+    right: &[u64],
+    users: &[u16],
+    workspace: &[u32],
+    met: u32,
+    s: usize,
+    t: usize,
+    twin: usize,
+) -> Stored
+    requires { ⌜ (s < 4096) × (s < length (now left)) × (s < length (now right)) × (s < length (now users)) × (8192 ≤ length (now workspace)) × Coded (now ops)
+        × (0 < s → Next s t) ⌝ }
+    ensures { λ r. ⌜ StoredOf m (now (ops .entry)) (now (left .entry)) (now (right .entry)) (now (users .entry)) (now (workspace .entry)) met s twin r ⌝ }
+{
+    if twin < s {
+        return Stored {
+            left: left[twin],
+            right: right[twin],
+            satisfied: workspace[twin],
+            possible: workspace[4096 + twin],
+        };
+    }
+    let row = row_of(m, ops, left, right, users, met, s, t);
+    Stored {
+        left: row.bits >> 1,
+        right: row.right,
+        satisfied: unpacked(row.bits, 0),
+        possible: unpacked(row.bits, 32),
+    }
+}
+
+// Enters the set s into the tables, with its users, the unit terms that all its actions met, and a twin.
 fn enter(
     m: Masks,
     ops: &[u16],
     s: usize,
     t: usize,
+    twin: usize,
     who: u16,
     all: u32,
     left: &mut [u64],
     right: &mut [u64],
     users: &mut [u16],
     met: &mut [u32],
+    twins: &mut [u16],
     workspace: &mut [u32],
 )
-    requires { ⌜ (s < 4096) × Coded (now ops) × (0 < s → Next s t) × Long (s + 1) (tables (now left) (now right) (now users) (now met) (now workspace)) ⌝ }
-    ensures { λ _. ⌜ Entered m (now (ops .entry)) s who all
-        (tables (now (left .entry)) (now (right .entry)) (now (users .entry)) (now (met .entry)) (now (workspace .entry)))
-        (tables (now (left .exit)) (now (right .exit)) (now (users .exit)) (now (met .exit)) (now (workspace .exit))) ⌝ }
+    requires { ⌜ (s < 4096) × (twin ≤ s) × Coded (now ops) × (0 < s → Next s t)
+        × Long (s + 1) (tables (now left) (now right) (now users) (now met) (now twins) (now workspace)) ⌝ }
+    ensures { λ _. ⌜ Entered m (now (ops .entry)) s who all twin
+        (tables (now (left .entry)) (now (right .entry)) (now (users .entry)) (now (met .entry)) (now (twins .entry)) (now (workspace .entry)))
+        (tables (now (left .exit)) (now (right .exit)) (now (users .exit)) (now (met .exit)) (now (twins .exit)) (now (workspace .exit))) ⌝ }
 {
-    let row = row_of(m, ops, left, right, users, all, s, t);
-    left[s] = row.bits >> 1;
+    let row = stored_of(m, ops, left, right, users, workspace, all, s, t, twin);
+    left[s] = row.left;
     right[s] = row.right;
     users[s] = who;
     met[s] = all;
-    workspace[s] = unpacked(row.bits, 0);
-    workspace[4096 + s] = unpacked(row.bits, 32);
+    twins[s] = twin as u16;
+    workspace[s] = row.satisfied;
+    workspace[4096 + s] = row.possible;
 }
 
-// Enters the sets whose last action is a, at place j: each is a set of the actions before it with a.
+// Enters the sets whose last action is a, at place j: each is a set of the actions before it with a. At the places of alike stand
+// actions alike a.
 fn add(
     m: Masks,
     ops: &[u16],
     j: usize,
     a: Action,
+    alike: usize,
     left: &mut [u64],
     right: &mut [u64],
     users: &mut [u16],
     met: &mut [u32],
+    twins: &mut [u16],
     workspace: &mut [u32],
 )
-    requires { ⌜ (j < 12) × (a .user < 16) × Coded (now ops) × Long (2 ^ (j + 1)) (tables (now left) (now right) (now users) (now met) (now workspace)) ⌝ }
-    ensures { λ _. ⌜ Added m (now (ops .entry)) j a (2 ^ (j + 1))
-        (tables (now (left .entry)) (now (right .entry)) (now (users .entry)) (now (met .entry)) (now (workspace .entry)))
-        (tables (now (left .exit)) (now (right .exit)) (now (users .exit)) (now (met .exit)) (now (workspace .exit))) ⌝ }
+    requires { ⌜ (j < 12) × (a .user < 16) × (alike < 2 ^ j) × Coded (now ops) × Long (2 ^ (j + 1)) (tables (now left) (now right) (now users) (now met) (now twins) (now workspace)) ⌝ }
+    ensures { λ _. ⌜ Added m (now (ops .entry)) j a alike (2 ^ (j + 1))
+        (tables (now (left .entry)) (now (right .entry)) (now (users .entry)) (now (met .entry)) (now (twins .entry)) (now (workspace .entry)))
+        (tables (now (left .exit)) (now (right .exit)) (now (users .exit)) (now (met .exit)) (now (twins .exit)) (now (workspace .exit))) ⌝ }
 {
     let user: u16 = 1 << a.user;
     let top: usize = 1 << j;
@@ -62,17 +113,20 @@ fn add(
     while t < top {
         let who = users[t] | user;
         let all = met[t] & a.met;
+        let twin = twin_of(alike, top, t, twins[t]);
         enter(
             m,
             ops,
             top + t,
             t,
+            twin,
             who,
             all,
             left,
             right,
             users,
             met,
+            twins,
             workspace,
         );
         t = t + 1;
@@ -89,18 +143,32 @@ fn add_all(
     right: &mut [u64],
     users: &mut [u16],
     met: &mut [u32],
+    twins: &mut [u16],
     workspace: &mut [u32],
 )
     requires { ⌜ (taken ≤ 12) × (all (λ a. ltb (a .user) 16) (take taken actions) ≡ true) × Coded (now ops)
-        × Long (2 ^ taken) (tables (now left) (now right) (now users) (now met) (now workspace)) ⌝ }
+        × Long (2 ^ taken) (tables (now left) (now right) (now users) (now met) (now twins) (now workspace)) ⌝ }
     ensures { λ _. ⌜ AddedAll m (now (ops .entry)) actions (2 ^ taken)
-        (tables (now (left .entry)) (now (right .entry)) (now (users .entry)) (now (met .entry)) (now (workspace .entry)))
-        (tables (now (left .exit)) (now (right .exit)) (now (users .exit)) (now (met .exit)) (now (workspace .exit))) ⌝ }
+        (tables (now (left .entry)) (now (right .entry)) (now (users .entry)) (now (met .entry)) (now (twins .entry)) (now (workspace .entry)))
+        (tables (now (left .exit)) (now (right .exit)) (now (users .exit)) (now (met .exit)) (now (twins .exit)) (now (workspace .exit))) ⌝ }
 {
     let mut j: usize = 0;
     while j < taken as usize {
         let a = actions[j];
-        add(m, ops, j, a, left, right, users, met, workspace);
+        let alike = alike_of(actions, j);
+        add(
+            m,
+            ops,
+            j,
+            a,
+            alike,
+            left,
+            right,
+            users,
+            met,
+            twins,
+            workspace,
+        );
         j = j + 1;
     }
 }
@@ -115,10 +183,11 @@ pub(crate) fn fill_tables(
     right: &mut [u64],
     users: &mut [u16],
     met: &mut [u32],
+    twins: &mut [u16],
     workspace: &mut [u32],
 )
     requires { ⌜ (taken ≤ 12) × (all (λ a. ltb (a .user) 16) (take taken actions) ≡ true) × Coded (now ops)
-        × Long (2 ^ taken) (tables (now left) (now right) (now users) (now met) (now workspace)) ⌝ }
+        × Long (2 ^ taken) (tables (now left) (now right) (now users) (now met) (now twins) (now workspace)) ⌝ }
     ensures { λ _. ⌜ RowsStand m (now (ops .entry)) actions (2 ^ taken) (now (workspace .entry)) (now (workspace .exit)) ⌝ }
 {
     enter(
@@ -127,12 +196,25 @@ pub(crate) fn fill_tables(
         0,
         0,
         0,
+        0,
         0xffff_ffff,
         left,
         right,
         users,
         met,
+        twins,
         workspace,
     );
-    add_all(m, ops, actions, taken, left, right, users, met, workspace);
+    add_all(
+        m,
+        ops,
+        actions,
+        taken,
+        left,
+        right,
+        users,
+        met,
+        twins,
+        workspace,
+    );
 }

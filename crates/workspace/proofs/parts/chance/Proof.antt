@@ -3,7 +3,6 @@ use mathlib.Core.Path.{_∙_, ap}
 use mathlib.Core.Bool.{_&&_, and-comm}
 use Prim.Native.Nat.{_+_}
 use borrow.Author.Needs.{needs}
-use lib.Bits.{bitAnd}
 use Rattle.soda.specs.Bits.{bit}
 use Rattle.workspace.specs.Private.{place}
 use Rattle.workspace.proofs.Digits.{bit-and}
