@@ -9,7 +9,7 @@ pub const MOST_WORDS: usize = oskhrein::MAX_WORDS;
 /// The most users.
 pub const MOST_USERS: usize = oskhrein::MAX_USERS;
 /// The most roles.
-pub const MOST_ROLES: usize = oskhrein::MAX_USERS;
+pub const MOST_ROLES: usize = oskhrein::MAX_ROLES;
 
 /// A refusal: its number, and what that number says.
 #[derive(Clone, Debug, PartialEq, Eq)]
