@@ -1,5 +1,6 @@
 pub mod Refusals
 pub mod Masks
+pub mod Layouts
 pub mod Grammar
 pub mod Scanning
 pub mod Stacks

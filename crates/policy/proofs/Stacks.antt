@@ -6,12 +6,12 @@ use mathlib.Core.Option.{Option, some, none}
 use Prim.Native.Nat.{ℕ, zero, suc, _+_, _-_, _/_, _^_, _≤_, _<_}
 use native.Mathlib.Numerals.{one-add}
 use native.Mathlib.Omega.{arith}
-use lib.Dec.{eqb, ltb}
+use lib.Dec.{eqb}
 use lib.ListN.{length, getD, drop, length-append, length-map, length-drop}
 use lib.Seq.{drop-cons, drop-length}
 use Rattle.soda.specs.Bits.{bit, number}
 use Rattle.soda.specs.Lists.{all}
-use Rattle.soda.specs.Terms.{Op, either, both, together, apart, Term, everyone, role, set, ¬ᵗ_, _⁺, bin, unitOp, unit, wellFormed, subterms}
+use Rattle.soda.specs.Terms.{Op, either, both, together, apart, Term, everyone, role, set, ¬ᵗ_, _⁺, bin, unit, wellFormed, subterms}
 use Rattle.soda.specs.Roles.{meets, meetsOp}
 use Rattle.soda.specs.Words.{opKind}
 use Rattle.soda.proofs.Bits.{bit-number}

@@ -1,7 +1,7 @@
 -- What the crate's own functions answer: tests of one word, the first term of some words, and what is kept of a row of terms.
 use mathlib.Core.Path.{_≡_}
 use mathlib.Core.Bool.{Bool, true, false, not, _&&_, _||_, cond}
-use mathlib.Core.List.{List, map}
+use mathlib.Core.List.{List, [], _∷_, map}
 use mathlib.Core.Option.{Option, some, none}
 use Prim.Native.Nat.{ℕ, _+_, _-_, _*_, _/_, _%_, _^_}
 use lib.Bits.{bitAnd, bitOr}
@@ -10,7 +10,7 @@ use Rattle.soda.specs.Lists.{padded}
 use Rattle.soda.specs.Bits.{bit, number}
 use Rattle.soda.specs.Terms.{Term, unit, wellFormed, size, marks}
 use Rattle.soda.specs.Tables.{metBits}
-use Rattle.policy.specs.Kinds.{EVERYONE, ROLE, NOT, PLUS, EITHER, BOTH, TOGETHER, APART}
+use Rattle.policy.specs.Kinds.{EVERYONE, ROLE, SET, NOT, PLUS, EITHER, BOTH, TOGETHER, APART}
 use Rattle.policy.specs.Words.{kind, decode}
 use Rattle.policy.specs.Shapes.{rightSides}
 use Rattle.policy.specs.declared.reader.First.{First}
@@ -21,6 +21,14 @@ use Rattle.policy.specs.declared.shapes.KindMasks.{KindMasks}
 -- a kind of 01's table
 abbrev pub known : ℕ → Bool
 known k = leb EVERYONE k && leb k APART
+
+-- for each kind of 01's table, what a word's bits below the kind stay under
+abbrev pub boundsOf : ℕ → ℕ → List ℕ
+boundsOf users roles = 0 ∷ 1 ∷ roles ∷ 2 ^ users ∷ 1 ∷ 1 ∷ 1 ∷ 1 ∷ 1 ∷ 1 ∷ []
+
+-- the bits below the kind k stay under a bound; a set is not empty
+abbrev pub boundOk : ℕ → ℕ → ℕ → Bool
+boundOk bound k low = ltb low bound && (not (eqb k SET) || not (eqb low 0))
 
 -- whether the user meets a term of one word, of kind k with operand x
 abbrev pub meetsLeaf : ℕ → ℕ → ℕ → ℕ → Bool

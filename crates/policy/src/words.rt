@@ -4,9 +4,9 @@ ghost use mathlib.Core.Bool.{_&&_};
 ghost use Prim.Native.Nat.{_≤_};
 ghost use Rattle.soda.specs.Bits.{bit};
 ghost use Rattle.soda.specs.Lists.{all};
-ghost use Rattle.policy.specs.Words.{kind, operand, sides, operandOk, wordOk};
+ghost use Rattle.policy.specs.Words.{kind, operand, sides, wordOk};
 ghost use Rattle.policy.specs.Reading.{countOk, lengthOk};
-ghost use Rattle.policy.specs.Private.{known};
+ghost use Rattle.policy.specs.Private.{known, boundOk};
 use super::kinds;
 
 // The number of sides of a word, by its kind.
@@ -61,38 +61,28 @@ pub(crate) fn length_ok(n: usize) -> bool
     (1 <= n) & (n <= 31)
 }
 
-// Whether the operand of a word of kind k names only what is declared.
-fn operand_ok(users: u8, roles: u8, k: usize, x: u32) -> bool
-    requires { ⌜ users ≤ 16 ⌝ }
-    ensures { λ r. ⌜ r ≡ operandOk users roles k x ⌝ }
+// Whether the bits below the kind of a word of kind k stay under its bound; a set is not empty.
+fn bound_ok(bound: u32, k: usize, low: u32) -> bool
+    ensures { λ r. ⌜ r ≡ boundOk bound k low ⌝ }
 {
-    if k == kinds::ROLE {
-        return x < roles as u32;
-    }
-    if k == kinds::SET {
-        return (x != 0) & (x < 1u32 << users);
-    }
-    x == 0
+    (low < bound) & ((k != kinds::SET) | (low != 0))
 }
 
-// Whether a word is in the layout and names only what is declared.
-fn word_ok(users: u8, roles: u8, w: u32) -> bool
-    requires { ⌜ users ≤ 16 ⌝ }
-    ensures { λ r. ⌜ r ≡ wordOk users roles w ⌝ }
-{
-    let k = kind_of(w);
-    let named = operand_ok(users, roles, k, operand_of(w));
-    (((w >> 16) & 0xff) == 0) & ((kinds::EVERYONE <= k) & ((k <= kinds::APART) & named))
-}
-
-// Whether every word is in the layout and names only what is declared.
+// Whether every word is in the layout and names only what is declared, by a bound for each kind.
 pub(crate) fn words_ok(users: u8, roles: u8, words: &[u32]) -> bool
     requires { ⌜ users ≤ 16 ⌝ }
     ensures { λ r. ⌜ r ≡ all (wordOk users roles) (now (words .entry)) ⌝ }
 {
+    // by kind: none, everyone, role, set, and those without an operand
+    let bounds = [0, 1, roles as u32, 1u32 << users, 1, 1, 1, 1, 1, 1];
     let mut i = 0;
     while i < words.len() {
-        if !word_ok(users, roles, words[i]) {
+        let w = words[i];
+        let k = kind_of(w);
+        if kinds::APART < k {
+            return false;
+        }
+        if !bound_ok(bounds[k], k, w & 0xff_ffff) {
             return false;
         }
         i += 1;
