@@ -3,9 +3,8 @@
 //!
 //! Two things save walks. What is possible for a set is possible for each part of it: an operator
 //! that is not possible for a set without its last action, or without its first, is neither
-//! possible nor satisfied for the set. And alike actions can be exchanged: a set with the newest
-//! action but without an earlier one that is alike has the row of the set with the earlier one
-//! instead.
+//! possible nor satisfied for the set. And alike actions can be exchanged: a set with an action but
+//! without an earlier one that is alike has the row of the set with the earlier one instead.
 
 use std::mem::MaybeUninit;
 use std::ops::BitOr;
@@ -122,6 +121,8 @@ struct Tables<const N: usize> {
     sides: [MaybeUninit<Sides>; N],
     users: [MaybeUninit<u16>; N],
     met: [MaybeUninit<u32>; N],
+    /// The first set with the same row as far as alike actions are exchanged.
+    same: [MaybeUninit<u16>; N],
 }
 
 impl<const N: usize> Tables<N> {
@@ -132,10 +133,12 @@ impl<const N: usize> Tables<N> {
             sides: [MaybeUninit::uninit(); N],
             users: [MaybeUninit::uninit(); N],
             met: [MaybeUninit::uninit(); N],
+            same: [MaybeUninit::uninit(); N],
         };
         tables.sides[0].write(Sides { left: 0, right: 0 });
         tables.users[0].write(0);
         tables.met[0].write(u32::MAX);
+        tables.same[0].write(0);
         tables
     }
 
@@ -229,6 +232,7 @@ impl<const N: usize> Filling<'_, N> {
         *tables.sides.get_unchecked_mut(s) = *tables.sides.get_unchecked(other);
         *tables.users.get_unchecked_mut(s) = *tables.users.get_unchecked(other);
         *tables.met.get_unchecked_mut(s) = *tables.met.get_unchecked(other);
+        *tables.same.get_unchecked_mut(s) = *tables.same.get_unchecked(other);
         *satisfied.get_unchecked_mut(s) = *satisfied.get_unchecked(other);
         *possible.get_unchecked_mut(s) = *possible.get_unchecked(other);
     }
@@ -250,6 +254,7 @@ impl<const N: usize> Filling<'_, N> {
         tables.sides.get_unchecked_mut(s).write(Sides { left: bits >> 1, right });
         tables.users.get_unchecked_mut(s).write(users);
         tables.met.get_unchecked_mut(s).write(met);
+        tables.same.get_unchecked_mut(s).write(s as u16);
         *satisfied.get_unchecked_mut(s) = bits as u32;
         *possible.get_unchecked_mut(s) = (bits >> 32) as u32;
     }
@@ -272,7 +277,10 @@ fn enter_all<const N: usize>(
             let missing = alike & !t;
             // SAFETY: there are no more sets than N, and those before this one were entered.
             unsafe {
-                if missing != 0 {
+                let same = usize::from(filling.tables.same.get_unchecked(t).assume_init());
+                if same != t {
+                    filling.copy(top | t, top | same);
+                } else if missing != 0 {
                     filling.copy(top | t, t | missing & missing.wrapping_neg());
                 } else {
                     filling.enter(top | t, t, action);
