@@ -1,3 +1,5 @@
+-- What a run is made of.
+pub mod Calls
 -- Demand 2.
 pub mod Follows
 pub mod Answers

@@ -1,6 +1,6 @@
 -- Demand 2: after an opening and any events, the monitor answers what Definitions 3, 6 and 7 of document 004 say. Statements only.
 -- `eventCode` and `statusLetter` are fields of `outcome` and `statusOf`, which the contracts of `event` and `status` cite. Both are
--- given the length of the workspace alone, so its contents play no part.
+-- given the length of the workspace alone, so its contents play no part (`StepIsCalls` of Calls).
 use mathlib.Core.Path.{_≡_}
 use mathlib.Core.Logic.{_↔_}
 use mathlib.Core.Bool.{Bool, true, false, So, not, cond}

@@ -1,4 +1,5 @@
 pub mod Runs
+pub mod Calls
 pub mod Accuracy
 pub mod EqualForms
 pub mod Examples
