@@ -2,7 +2,7 @@
 -- the policy that was opened, and the workspace can be filled for it.
 use mathlib.Core.Path.{_≡_, refl, ap, ap₂, fun-ext, _∙_}
 use mathlib.Core.Logic.{_≢_}
-use mathlib.Core.Bool.{Bool, true, false, not, cond}
+use mathlib.Core.Bool.{true, false, not}
 use mathlib.Core.List.{List, [], _∷_, _++_, map}
 use Prim.Native.Nat.{ℕ, zero, suc, _-_, _≤_}
 use native.Mathlib.Omega.{arith}
@@ -27,7 +27,7 @@ use Rattle.monitor.specs.declared.Verdict.the-variants.{Yes, No, Refused
 use Rattle.monitor.specs.Configurations.{isZero, configurationOf}
 use Rattle.monitor.specs.Instances.{instanceOf, policyOf, takenOf, term, noted, notedFor}
 use Rattle.monitor.specs.Monitors.{Opening, policy, openRefusals, openCode}
-use Rattle.monitor.specs.MultisetTest.{verdictNumber, verdictLetter, letterY, letterN, total, listed, notedBy, testRefusals, testCode, testOf, Numbered}
+use Rattle.monitor.specs.MultisetTest.{verdictNumber, verdictLetter, total, listed, notedBy, testRefusals, testCode, testOf, Numbered}
 use Rattle.monitor.specs.Private.{Fillable, adding}
 use Rattle.monitor.proofs.Formed.{Readable, words-few}
 use Rattle.monitor.proofs.Fillable.{fillable}

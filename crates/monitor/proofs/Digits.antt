@@ -5,13 +5,9 @@ use Prim.Native.Nat.{ℕ, _+_, _*_, _-_, _/_, _%_, _^_, _<_}
 use native.Mathlib.Nat.{mod-lt, one-mul, zero-mul}
 use native.Mathlib.Omega.{arith}
 use lib.Bits.{bitAnd, bitOr, and-high, or-add-and}
-use lib.Pow.{shl-exact, high-ones}
+use lib.Pow.{high-ones}
 use borrow.Author.Tests.{eqb-true, eqb-false}
 use Rattle.soda.specs.Bits.{bit, setBit, clearBit}
-
--- `1 << i` at a width of w
-pub one-shifted : (w i : ℕ) → i < w → 1 * 2 ^ i % 2 ^ w ≡ 2 ^ i
-one-shifted w i h = shl-exact {a = 1} 1 i w (omega arith) (omega arith) ∙ one-mul (2 ^ i)
 
 -- `n & 2 ^ i` is digit i in its place
 and-lone : (n i : ℕ) → bitAnd n (2 ^ i) ≡ (n / 2 ^ i % 2) * 2 ^ i

@@ -1,7 +1,6 @@
 -- An action sets one place, a grant or revocation one bit of one row, a close the mark; an accepted event's tests bound its user.
 use mathlib.Core.Path.{_≡_, refl, ap, _∙_}
 use mathlib.Core.Bool.{Bool, true, false, not, _&&_, _||_, cond}
-use mathlib.Core.List.{List}
 use Prim.Native.Nat.{ℕ, _<_}
 use native.Mathlib.Omega.{arith}
 use lib.Dec.{eqb}
@@ -16,7 +15,6 @@ use Rattle.soda.proofs.Bits.{bit-setBit, bit-clearBit}
 use Rattle.policy.proofs.Refusals.{clear}
 use Rattle.monitor.specs.declared.Configuration.{Configuration}
 use Rattle.monitor.specs.declared.Instance.{Instance}
-use Rattle.monitor.specs.declared.Monitor.{Monitor}
 use Rattle.monitor.specs.declared.Event.{Event}
 use Rattle.monitor.specs.declared.Event.the-variants.{Acts, Grants, Revokes, Closes, Malformed}
 use Rattle.monitor.specs.Configurations.{held, withRow, withGrant, withoutGrant}

@@ -1,6 +1,6 @@
 -- What an accepted opening and a well-formed monitor say of their parts: none of the refusals applies.
 use mathlib.Core.Path.{_≡_, refl}
-use mathlib.Core.Bool.{Bool, So, not, _&&_}
+use mathlib.Core.Bool.{Bool, So, _&&_}
 use mathlib.Core.List.{List}
 use Prim.Native.Nat.{ℕ, _^_, _≤_}
 use native.Mathlib.Omega.{arith}

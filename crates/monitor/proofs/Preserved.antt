@@ -4,7 +4,7 @@ use mathlib.Core.Path.{_≡_, refl, sym, ap, _∙_}
 use mathlib.Core.Bool.{Bool, true, false, So, _&&_, cond}
 use mathlib.Core.List.{List, [], _∷_, map}
 use mathlib.Core.Option.{Option, some, none}
-use Prim.Native.Nat.{ℕ, zero, suc, _+_, _-_, _*_, _/_, _^_, _<_}
+use Prim.Native.Nat.{ℕ, zero, suc, _+_, _-_, _*_, _^_, _<_}
 use native.Mathlib.Numerals.{add-one}
 use native.Mathlib.Omega.{arith}
 use lib.Bits.{bitAnd, and-step, and-zero-l, or-lt}
@@ -18,18 +18,18 @@ use Rattle.soda.specs.Lists.{all, padded}
 use Rattle.soda.specs.Terms.{Term, unit, subterms}
 use Rattle.soda.specs.Roles.{meets}
 use Rattle.soda.proofs.Bools.{never, and-split, and-join, so-lt, lt-so, eq-so, by-test}
+use Rattle.soda.proofs.Bits.{half-digit}
 use Rattle.soda.proofs.Splits.{split-append, all-parts}
 use Rattle.policy.specs.Words.{decode}
 use Rattle.policy.specs.Reading.{lengthOk, unitsOf, metIn, metOf}
 use Rattle.policy.proofs.Refusals.{clear, clear-code}
 use Rattle.monitor.specs.declared.Configuration.{Configuration}
 use Rattle.monitor.specs.declared.Instance.{Instance}
-use Rattle.monitor.specs.declared.Monitor.{Monitor}
 use Rattle.monitor.specs.declared.Event.{Event}
 use Rattle.monitor.specs.declared.Event.the-variants.{Acts, Grants, Revokes, Closes, Malformed}
 use Rattle.monitor.specs.Configurations.{assignment, held, withRow, isZero, configurationOf}
 use Rattle.monitor.specs.Instances.{policyOf, takenOf, notedFor, withAction, instanceOf, actionOk, isIdle, noAction}
-use Rattle.monitor.specs.Monitors.{Opening, openCode, fresh, wellFormed}
+use Rattle.monitor.specs.Monitors.{Opening, openCode, fresh}
 use Rattle.monitor.specs.Events.{eventIn, ownRefusals, applied, outcome}
 use Rattle.monitor.specs.Effects.{OpenedIsWellFormed, AcceptedStaysWellFormed}
 use Rattle.monitor.specs.Private.{Entered}
@@ -54,16 +54,12 @@ module _ {A : Type 0} (f : A → Bool) where
   all-put (x ∷ l) (suc k) a h p = let q = and-split (f x) (all f l) h in and-join (f x) (all f (put l k a)) (q .0) (all-put l k a (q .1) p)
 
 -- ── noted bits are bits of unit terms ──
-half : (b : Bool) (n : ℕ) → (cond b 1 0 + 2 * n) / 2 ≡ n
-half true n = omega arith
-half false n = omega arith
-
 -- one digit more
 and-digit : (p q : Bool) (m n : ℕ) → (So p → So q) → bitAnd m n ≡ m → bitAnd (cond p 1 0 + 2 * m) (cond q 1 0 + 2 * n) ≡ cond p 1 0 + 2 * m
-and-digit true true m n h e = and-step (1 + 2 * m) (1 + 2 * n) ∙ rw (half true m, half true n, e) (omega arith)
+and-digit true true m n h e = and-step (1 + 2 * m) (1 + 2 * n) ∙ rw (half-digit true m, half-digit true n, e) (omega arith)
 and-digit true false m n h e = never (h refl)
-and-digit false true m n h e = and-step (0 + 2 * m) (1 + 2 * n) ∙ rw (half false m, half true n, e) (omega arith)
-and-digit false false m n h e = and-step (0 + 2 * m) (0 + 2 * n) ∙ rw (half false m, half false n, e) (omega arith)
+and-digit false true m n h e = and-step (0 + 2 * m) (1 + 2 * n) ∙ rw (half-digit false m, half-digit true n, e) (omega arith)
+and-digit false false m n h e = and-step (0 + 2 * m) (0 + 2 * n) ∙ rw (half-digit false m, half-digit false n, e) (omega arith)
 
 number-and : {A : Type 0} (f g : A → Bool) (l : List A) → bitAnd (number (map (λ x. g x && f x) l)) (number (map g l)) ≡ number (map (λ x. g x && f x) l)
 number-and f g [] = refl

@@ -1,5 +1,5 @@
 -- The status (document 01: standing), and document 01's number and letter for each case of the answer.
-use mathlib.Core.Bool.{Bool, cond}
+use mathlib.Core.Bool.{cond}
 use mathlib.Core.List.{List}
 use Prim.Native.Nat.{ℕ}
 use lib.Dec.{eqb}

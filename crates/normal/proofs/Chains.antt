@@ -18,7 +18,7 @@ use Rattle.soda.proofs.Bools.{by-test, and-split, so-lt}
 use Rattle.soda.proofs.Sorting.{All, all-append}
 use Rattle.soda.proofs.Terms.{size-pos}
 use Rattle.soda.proofs.Words.{op-high, same-kind, encode-length, words-trans, compare-in-place}
-use Rattle.soda.proofs.Normal.{by-operands, operands-some, parts, parts-bin}
+use Rattle.soda.proofs.Normal.{by-operands, operands-some, chain-cons, parts, parts-bin}
 use Rattle.soda.proofs.EqualForms.{normal-keeps, normal-is-normal}
 use Rattle.policy.specs.Words.{kind, sides}
 use Rattle.normal.specs.Private.{span, lead, operandOf, Operand, Chain, last, more}
@@ -185,10 +185,10 @@ normal-words op φ rest f =
     subst (λ (χ : Term). Chain (opWord op) (encode χ ++ rest) (operands op n) rest) (normal-chain op n (normal-is-normal φ f))
     (chain-words op (operands op n) rest (operands-some op n) (operands-fine op n (normal-keeps φ .same-fits ∙ f)))
 
-chain-cons : (op : Op) (φ : Term) {w : ℕ} {ws : List ℕ} {l : List Term} {rest : List ℕ} → Chain w ws l rest → chain op (φ ∷ l) ≡ bin op φ (chain op l)
-chain-cons op φ (last p) = refl
-chain-cons op φ (more p c) = refl
+chain-some : {w : ℕ} {ws : List ℕ} {l : List Term} {rest : List ℕ} → Chain w ws l rest → 0 < length l
+chain-some (last p) = omega arith
+chain-some (more p c) = omega arith
 
 pub words-chain : (op : Op) {ws : List ℕ} {l : List Term} {rest : List ℕ} → Chain (opWord op) ws l rest → ws ≡ encode (chain op l) ++ rest
 words-chain op (last p) = refl
-words-chain op (more {φ} p c) = rw (chain-cons op φ c, append-assoc) (ap (λ (vs : List ℕ). opWord op ∷ (encode φ ++ vs)) (words-chain op c))
+words-chain op (more {φ} {l} p c) = rw (chain-cons op φ l (chain-some c), append-assoc) (ap (λ (vs : List ℕ). opWord op ∷ (encode φ ++ vs)) (words-chain op c))

@@ -2,23 +2,16 @@
 use mathlib.Core.Path.{_≡_, refl, sym, _∙_, ap}
 use mathlib.Core.Bool.{Bool, true, false, not, _&&_, cond}
 use mathlib.Core.List.{List, [], _∷_, _++_, map}
-use Prim.Native.Nat.{ℕ, zero, suc, _+_, _*_, _/_, _%_, _^_, _≤_, _<_}
-use native.Mathlib.Nat.{add-zero, mul-one, mul-left-comm, pow-suc, pow-succ', div-one, zero-div}
+use Prim.Native.Nat.{ℕ, zero, suc, _+_, _*_, _/_, _%_, _^_, _≤_}
+use native.Mathlib.Nat.{add-zero, mul-one, mul-left-comm, pow-succ', div-one, zero-div}
 use native.Mathlib.Numerals.{one-add}
 use native.Mathlib.Omega.{arith}
 use lib.Bits.{bitAnd, bitOr, or-shifted, and-block}
 use lib.ListN.{length, drop}
 use lib.Pow.{shl-exact, shr-shr}
 use Rattle.soda.specs.Bits.{number}
+use Rattle.soda.proofs.Bits.{digit-lt, number-lt}
 use Rattle.policy.specs.Private.{putOf, withoutOf}
-
-digit-lt : (b : Bool) → cond b 1 0 < 2
-digit-lt true = omega arith
-digit-lt false = omega arith
-
-number-lt : (l : List Bool) → number l < 2 ^ length l
-number-lt [] = omega arith
-number-lt (b ∷ l) = omega (arith, digit-lt b, number-lt l, pow-suc 2 (length l))
 
 pub put-is : (b : Bool) (l : List Bool) → length l ≤ 31 → putOf (number l) b ≡ number (b ∷ l)
 put-is b l h =

@@ -4,10 +4,10 @@ use mathlib.Core.Bool.{Bool, true, false, So, not, _&&_, _||_, cond, true≢fals
 use mathlib.Core.List.{List, [], _∷_}
 use Prim.Native.Nat.{ℕ, zero, suc, _+_, _-_, _*_, _/_, _%_, _^_, _≤_, _<_}
 use native.Mathlib.Omega.{arith}
-use native.Mathlib.Nat.{pow-suc, zero-div}
+use native.Mathlib.Nat.{one-mul, pow-suc, zero-div}
 use lib.Dec.{eqb, eqb·zero-suc, eqb·suc-zero, eqb·suc-suc}
 use lib.ListN.{length, getD}
-use lib.Pow.{shr-shr}
+use lib.Pow.{shl-exact, shr-shr}
 use Rattle.soda.specs.Bits.{bit, setBit, clearBit, number}
 use Rattle.soda.proofs.Bools.{so-eq}
 
@@ -96,6 +96,10 @@ some-bit (suc b) n l k = go (bit 0 n) refl (some-bit b (n / 2))
     go : (c : Bool) → bit 0 n ≡ c → (n / 2 ≤ b → 1 ≤ n / 2 → (i : ℕ) × So (bit i (n / 2))) → (i : ℕ) × So (bit i n)
     go true e f = (0, e)
     go false e f = let m = even n e in let (i, x) = f (omega arith) (omega arith) in (suc i, bit-suc i n ∙ x)
+
+-- one digit shifted into a word of w digits
+pub one-shl : (w k : ℕ) → k < w → 1 * 2 ^ k % 2 ^ w ≡ 2 ^ k
+one-shl w k h = shl-exact {a = 1} 1 k w (omega arith) (omega arith) ∙ one-mul (2 ^ k)
 
 -- the digits of a number are the list's
 bit-zero : (b : Bool) (n : ℕ) → bit 0 (cond b 1 0 + 2 * n) ≡ b

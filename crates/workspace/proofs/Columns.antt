@@ -97,11 +97,11 @@ module _ (φ : Term) (l : List Action) (cap : 2 ^ length l ≤ 4096) where
     unfolding sets
     sets-length = length-map (range 0 (2 ^ length l)) (rowOf e φ l) ∙ length-range 0 (2 ^ length l)
 
-    column-length : length (column e φ l) ≡ 4096
+    pub column-length : length (column e φ l) ≡ 4096
     unfolding column sets
     column-length = omega (arith, length-append sets (replicate (4096 - 2 ^ length l) 0), sets-length, length-replicate {A = ℕ} (4096 - 2 ^ length l) 0)
 
-    column-at : (k : ℕ) → k < 2 ^ length l → getD (column e φ l) k 0 ≡ rowOf e φ l k
+    pub column-at : (k : ℕ) → k < 2 ^ length l → getD (column e φ l) k 0 ≡ rowOf e φ l k
     unfolding column sets
     column-at k h =
         let z : 0 + k ≡ k = omega arith in
@@ -115,13 +115,13 @@ module _ (φ : Term) (l : List Action) (cap : 2 ^ length l ≤ 4096) where
         ∙ getD-replicate (4096 - 2 ^ length l) (k - 2 ^ length l) 0 0 (omega arith)
 
   module _ (room : List ℕ) where
-    filled-low : (k : ℕ) → k < 4096 → getD (filled φ l room) k 0 ≡ getD (column false φ l) k 0
+    pub filled-low : (k : ℕ) → k < 4096 → getD (filled φ l room) k 0 ≡ getD (column false φ l) k 0
     unfolding filled tableOf
     filled-low k h =
         List·getD-append (column false φ l ++ column true φ l) (drop 8192 room) 0 k (omega (arith, length-append (column false φ l) (column true φ l), column-length false))
         ∙ List·getD-append (column false φ l) (column true φ l) 0 k (omega (arith, column-length false))
 
-    filled-high : (k : ℕ) → k < 4096 → getD (filled φ l room) (4096 + k) 0 ≡ getD (column true φ l) k 0
+    pub filled-high : (k : ℕ) → k < 4096 → getD (filled φ l room) (4096 + k) 0 ≡ getD (column true φ l) k 0
     unfolding filled tableOf
     filled-high k h =
         let z : 4096 + k ≡ length (column false φ l) + k = omega (arith, column-length false) in

@@ -3,14 +3,14 @@ use mathlib.Core.Path.{_≡_, refl, sym, ap, _∙_}
 use mathlib.Core.Bool.{Bool, true, false, So, _&&_, _||_, cond, or-false, and-true, true≢false}
 use mathlib.Core.Logic.{_⊎_, inl, inr}
 use Prim.Native.Nat.{ℕ, zero, suc, _+_, _-_, _*_, _/_, _%_, _^_, _≤_, _<_}
-use native.Mathlib.Nat.{mod-lt, one-mul, pow-suc, zero-lt-suc}
+use native.Mathlib.Nat.{mod-lt, pow-suc, zero-lt-suc}
 use native.Mathlib.Omega.{arith}
 use borrow.Author.Tests.{lt-ltb, le-ltb}
 use lib.Arith.{lt-one}
 use lib.Bits.{bitAnd, bitOr, and-shr, or-shr, and-mod, or-mod, and-mask}
 use lib.Dec.{eqb, ltb}
 use lib.ListN.{getD, replicate, length-replicate, getD-replicate, List·getD-eq-default}
-use lib.Pow.{pow-pos, shr-shr, high, low, shl-exact}
+use lib.Pow.{pow-pos, shr-shr, high, low}
 use Rattle.soda.specs.Bits.{bit, number, setBit}
 use Rattle.soda.proofs.Bools.{Order, less, same, more, order}
 use Rattle.soda.proofs.Bits.{bit-suc, bit-of-zero, bit-setBit, bit-number, some-bit}
@@ -64,10 +64,6 @@ unfolding setBit
 bit-power j i =
     let z : 0 + 2 ^ i ≡ 2 ^ i = omega arith in
     sym (ap (λ b. bit j (cond b 0 (0 + 2 ^ i))) (bit-of-zero i) ∙ ap (bit j) z) ∙ bit-setBit i j 0 ∙ ap (λ b. eqb j i || b) (bit-of-zero j) ∙ or-false (eqb j i)
-
--- one digit shifted into a word of w digits
-pub one-shl : (w k : ℕ) → k < w → 1 * 2 ^ k % 2 ^ w ≡ 2 ^ k
-one-shl w k h = shl-exact {a = 1} 1 k w (omega arith) (omega arith) ∙ one-mul (2 ^ k)
 
 ones-number : (k : ℕ) → 2 ^ k - 1 ≡ number (replicate k true)
 ones-number zero = refl

@@ -16,7 +16,7 @@ use Rattle.soda.specs.Lists.{all}
 use Rattle.soda.specs.Terms.{Term, size}
 use Rattle.soda.specs.Tables.{acts}
 use Rattle.soda.proofs.Bools.{same-test, eq-so, so-eq}
-use Rattle.soda.proofs.Bits.{bit-number}
+use Rattle.soda.proofs.Bits.{number-lt, bit-number}
 use Rattle.soda.proofs.Splits.{any-append}
 use Rattle.policy.specs.Shapes.{rightSides}
 use Rattle.workspace.specs.Workspace.{range, select, judged, rowOf}
@@ -37,11 +37,6 @@ pub map-range : {A : Type 0} (f : ℕ → A) (d : A) (i n k : ℕ) → k < n →
 map-range f d i zero k h = absurd (omega arith)
 map-range f d i (suc n) zero h = let e : i ≡ i + 0 = omega arith in ap f e
 map-range f d i (suc n) (suc k) h = let e : suc i + k ≡ i + suc k = omega arith in map-range f d (suc i) n k (omega arith) ∙ ap f e
-
-number-lt : (l : List Bool) → number l < 2 ^ length l
-number-lt [] = omega arith
-number-lt (true ∷ l) = omega (arith, number-lt l, pow-suc 2 (length l))
-number-lt (false ∷ l) = omega (arith, number-lt l, pow-suc 2 (length l))
 
 row-number : (e : Bool) (φ : Term) (l : List Action) (s row right w : ℕ) → size φ ≤ 31 → RowIs φ (select s l) row right → Unpacked e row w → w < 2 ^ 32 → w ≡ rowOf e φ l s
 unfolding rowOf

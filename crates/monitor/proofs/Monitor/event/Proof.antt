@@ -1,6 +1,5 @@
 -- The checks in order: each return is a refusal's, or what performing the event gave.
 use mathlib.Core.Path.{_≡_, sym, ap, _∙_}
-use Prim.Native.Nat.{ℕ}
 use borrow.Author.Needs.{needs}
 use lib.ListN.{length}
 use Rattle.policy.specs.Refusals.{code}

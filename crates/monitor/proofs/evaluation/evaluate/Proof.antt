@@ -9,7 +9,7 @@ use lib.Pow.{pow-pos, pow-mono}
 use lib.Seq.{length-take-le}
 use Rattle.workspace.specs.Workspace.{filled}
 use Rattle.monitor.specs.Instances.{term, takenOf}
-use Rattle.monitor.proofs.Digits.{one-shifted}
+use Rattle.soda.proofs.Bits.{one-shl}
 use Rattle.monitor.proofs.Loops.{length-mapped}
 use Rattle.monitor.proofs.Verdicts.{satisfied-read, possible-read, low-bit}
 use Rattle.monitor.proofs.Fillable.{taken-few, room-long, fill-is}
@@ -34,7 +34,7 @@ module _ (s : tie.Start) where
 
   -- the mask of all actions, as the code computes it
   shifted : 1 * 2 ^ (s .args .instance .taken) % 2 ^ 64 ≡ 2 ^ (s .args .instance .taken)
-  shifted = one-shifted 64 (s .args .instance .taken) (omega (arith, few))
+  shifted = one-shl 64 (s .args .instance .taken) (omega (arith, few))
 
   low : 2 ^ (s .args .instance .taken) ≤ 4096
   low = pow-mono few

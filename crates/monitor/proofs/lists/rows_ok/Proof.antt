@@ -8,7 +8,7 @@ use borrow.Author.Tests.{lt-ltb, le-ltb, eq-eqb, ne-eqb}
 use lib.Dec.{ltb}
 use lib.ListN.{length, getD, drop}
 use Rattle.soda.specs.Lists.{all}
-use Rattle.monitor.proofs.Digits.{one-shifted}
+use Rattle.soda.proofs.Bits.{one-shl}
 use Rattle.monitor.proofs.Loops.{all-stop, all-more, all-end}
 use Rattle.monitor.proofs.lists.rows_ok.Statement.{statement}
 use Rattle.monitor.proofs.lists.rows_ok.Tie as tie
@@ -43,7 +43,7 @@ cast-if2 c = omega (arith, c .shared-slice-known .given (c .before .before .loop
 
 -- the limit is that of the definition
 limit : (l : tie.At-loop Inv-loop μ-loop) → 1 * 2 ^ (l .before .before .args .roles) % 2 ^ 32 ≡ 2 ^ (l .before .before .args .roles)
-limit l = one-shifted 32 (l .before .before .args .roles) (omega arith)
+limit l = one-shl 32 (l .before .before .args .roles) (omega arith)
 
 returns-2 : tie.Need-returns-2 Inv-loop μ-loop
 returns-2 c =

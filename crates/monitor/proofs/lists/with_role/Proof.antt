@@ -2,7 +2,8 @@
 use mathlib.Core.Path.{ap, _∙_}
 use borrow.Author.Needs.{needs}
 use lib.Bits.{bitOr}
-use Rattle.monitor.proofs.Digits.{one-shifted, or-is-set}
+use Rattle.soda.proofs.Bits.{one-shl}
+use Rattle.monitor.proofs.Digits.{or-is-set}
 use Rattle.monitor.proofs.lists.with_role.Statement.{statement}
 use Rattle.monitor.proofs.lists.with_role.Tie as tie
 
@@ -10,7 +11,7 @@ shl-result : tie.Need-shl-result
 shl-result c = search needs
 
 returns : tie.Need-returns
-returns c = ap (bitOr (c .args .row)) (one-shifted 16 (c .args .role) (c .pre)) ∙ or-is-set (c .args .row) (c .args .role)
+returns c = ap (bitOr (c .args .row)) (one-shl 16 (c .args .role) (c .pre)) ∙ or-is-set (c .args .row) (c .args .role)
 
 pub with-role-spec : {M : Type 1} → statement M
 with-role-spec = tie.close (tie.spec shl-result returns)

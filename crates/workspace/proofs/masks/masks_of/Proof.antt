@@ -5,7 +5,7 @@ use native.Mathlib.Omega.{arith}
 use lib.Pow.{pow-pos}
 use borrow.Author.Needs.{needs}
 use Rattle.workspace.specs.Private.{Packed}
-use Rattle.workspace.proofs.Digits.{one-shl}
+use Rattle.soda.proofs.Bits.{one-shl}
 use Rattle.workspace.proofs.masks.masks_of.Statement.{statement}
 use Rattle.workspace.proofs.masks.masks_of.Tie as tie
 

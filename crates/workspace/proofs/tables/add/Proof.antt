@@ -4,7 +4,7 @@ use native.Mathlib.Omega.{arith}
 use borrow.Author.Count.{falls}
 use borrow.Author.Needs.{needs}
 use Rattle.workspace.specs.Private.{tables, Long}
-use Rattle.workspace.proofs.Digits.{one-shl}
+use Rattle.soda.proofs.Bits.{one-shl}
 use Rattle.workspace.proofs.Entries.{Adding, add-begin, add-next, add-room, add-below, add-turn, add-end, long-same}
 use Rattle.workspace.proofs.tables.add.Statement.{statement}
 use Rattle.workspace.proofs.tables.add.Tie as tie

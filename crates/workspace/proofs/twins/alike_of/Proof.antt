@@ -5,7 +5,7 @@ use native.Mathlib.Omega.{arith}
 use borrow.Author.Count.{falls}
 use borrow.Author.Needs.{needs}
 use lib.Bits.{bitOr}
-use Rattle.workspace.proofs.Digits.{one-shl}
+use Rattle.soda.proofs.Bits.{one-shl}
 use Rattle.workspace.proofs.Exchange.{Finding, find-begin, find-skip, find-take, find-end}
 use Rattle.workspace.proofs.twins.alike_of.Statement.{statement}
 use Rattle.workspace.proofs.twins.alike_of.Tie as tie
