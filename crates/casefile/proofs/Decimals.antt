@@ -19,7 +19,7 @@ pub three-digits : (n : ℕ) → 100 ≤ n → decimal n ≡ digit (n / 100) ∷
 three-digits n h = rw (le-ltb n 10 (omega arith), le-ltb n 100 h)
 
 -- ── lengths ──
-pub at-most-three : (n : ℕ) → length (decimal n) ≤ 3
+at-most-three : (n : ℕ) → length (decimal n) ≤ 3
 at-most-three n = go (ltb n 10) (ltb n 100)
   where
     go : (a b : Bool) → length (cond a (digit n ∷ []) (cond b (digit (n / 10) ∷ digit n ∷ []) (digit (n / 100) ∷ digit (n / 10) ∷ digit n ∷ []))) ≤ 3
@@ -27,7 +27,7 @@ at-most-three n = go (ltb n 10) (ltb n 100)
     go false true = omega arith
     go false false = omega arith
 
-pub at-most-two : (n : ℕ) → n < 100 → length (decimal n) ≤ 2
+at-most-two : (n : ℕ) → n < 100 → length (decimal n) ≤ 2
 at-most-two n h = rw (lt-ltb n 100 h) (go (ltb n 10))
   where
     go : (a : Bool) → length (cond a (digit n ∷ []) (digit (n / 10) ∷ digit n ∷ [])) ≤ 2

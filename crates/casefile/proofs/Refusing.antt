@@ -1,4 +1,4 @@
--- The numbers of openings and events are below 16.
+-- The numbers of events are below 16.
 use mathlib.Core.Path.{refl}
 use mathlib.Core.Bool.{Bool, true, false, So, cond}
 use mathlib.Core.List.{List, [], _∷_}
@@ -10,7 +10,7 @@ use Rattle.policy.specs.Refusals.{code}
 use Rattle.monitor.specs.declared.Monitor.{Monitor}
 use Rattle.monitor.specs.declared.Event.{Event}
 use Rattle.monitor.specs.declared.Event.the-variants.{Acts, Grants, Revokes, Closes, Malformed}
-use Rattle.monitor.specs.Monitors.{Opening, openRefusals, openCode, admission}
+use Rattle.monitor.specs.Monitors.{admission}
 use Rattle.monitor.specs.Events.{eventRefusals}
 
 -- one of the numbers of the list, or 0
@@ -23,10 +23,6 @@ code-below n (r ∷ l) z h =
     go : (b : Bool) → r .1 < n → code l < n → cond b (r .1) (code l) < n
     go true x y = x
     go false x y = y
-
-pub open-below : (o : Opening) → openCode o < 16
-unfolding openRefusals
-open-below o = code-below 16 (openRefusals o) (lit< tt) refl
 
 pub event-below : (m : Monitor) (e : Event) (n : ℕ) → code (eventRefusals m e n) < 16
 unfolding eventRefusals admission

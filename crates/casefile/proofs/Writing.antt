@@ -11,7 +11,7 @@ module _ (out : List ℕ) (at : ℕ) (s : List ℕ) (room : HasRoom out at s) wh
   front : length (take at out ++ s) ≡ at + length s
   front = length-append (take at out) s ∙ ap (λ (n : ℕ). n + length s) (length-take-le at out (omega arith))
 
-  pub written-length : length (written out at s) ≡ length out
+  written-length : length (written out at s) ≡ length out
   written-length = length-append (take at out ++ s) (drop (at + length s) out) ∙ omega (arith, front, length-drop (at + length s) out)
 
   behind : (t : List ℕ) → drop (at + length s + length t) (written out at s) ≡ drop (at + length s + length t) out
@@ -20,7 +20,7 @@ module _ (out : List ℕ) (at : ℕ) (s : List ℕ) (room : HasRoom out at s) wh
       ∙ drop-append-add (take at out ++ s) (drop (at + length s) out) (length t)
       ∙ drop-drop (length t) (at + length s) out
 
-  pub written-again : (t : List ℕ) → written (written out at s) (at + length s) t ≡ written out at (s ++ t)
+  written-again : (t : List ℕ) → written (written out at s) (at + length s) t ≡ written out at (s ++ t)
   written-again t =
       let both : at + length s + length t ≡ at + length (s ++ t) = omega (arith, length-append s t) in
       ap₂ (λ (p q : List ℕ). p ++ t ++ q) (take-at (take at out ++ s) (drop (at + length s) out) (at + length s) front) (behind t)

@@ -23,7 +23,7 @@ use Rattle.monitor.proofs.Loops.{all-replicate}
 use Rattle.monitor.proofs.Fillable.{taken-more}
 
 -- ── adding ──
-pub adding-append : (i : Instance) (l m : List Action) → adding i (l ++ m) ≡ adding (adding i l) m
+adding-append : (i : Instance) (l m : List Action) → adding i (l ++ m) ≡ adding (adding i l) m
 adding-append i [] m = refl
 adding-append i (a ∷ l) m = adding-append (withAction i a) l m
 

@@ -154,7 +154,7 @@ module _ (c : Configuration) (i : Instance) where
       (and-join (leb (i .taken) 12) actions-test (le-leb (i .taken) 12 (f .taken-most)) (f .actions-ok))
       (and-join words-test places-test (f .words-zero) (f .places-idle)))
 
-  pub formed-clear : InstanceFormed c i → Clear (refusals (c .users) (c .roles) (policyOf i))
+  formed-clear : InstanceFormed c i → Clear (refusals (c .users) (c .roles) (policyOf i))
   formed-clear f = clear (refusals (c .users) (c .roles) (policyOf i)) refl (f .read)
 
   pub formed-read : InstanceFormed c i → Readable (c .users) (c .roles) (policyOf i)

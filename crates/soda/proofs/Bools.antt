@@ -46,11 +46,11 @@ or-right true b e = refl
 or-right false b e = e
 
 -- a test as the library states it, and as a path
-pub so-T : (b : Bool) → So b → T b
+so-T : (b : Bool) → So b → T b
 so-T true e = tt
 so-T false e = never e
 
-pub T-so : (b : Bool) → T b → So b
+T-so : (b : Bool) → T b → So b
 T-so true t = refl
 T-so false t = absurd t
 
@@ -64,7 +64,7 @@ lt-so m n h = T-so (ltb m n) (lt→ltb m n h)
 pub so-lt : (m n : ℕ) → So (ltb m n) → m < n
 so-lt m n e = ltb→lt m n (so-T (ltb m n) e)
 
-pub no-lt : (m n : ℕ) → ltb m n ≡ false → n ≤ m
+no-lt : (m n : ℕ) → ltb m n ≡ false → n ≤ m
 no-lt m n e = nltb→le m n (no-T (ltb m n) e)
 
 pub eq-so : (m n : ℕ) → m ≡ n → So (eqb m n)

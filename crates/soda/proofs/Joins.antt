@@ -28,10 +28,10 @@ module _ {A : Type 0} (user : A → ℕ) where
       go (inr y) f = or-right (eqb (user a) u) (acts user u s) (f y)
   acts-left u (right {x = a} {s = s} p) x = or-right (eqb (user a) u) (acts user u s) (acts-left u p x)
 
-  pub acts-right : (u : ℕ) {s l r : List A} → Split s l r → So (acts user u r) → So (acts user u s)
+  acts-right : (u : ℕ) {s l r : List A} → Split s l r → So (acts user u r) → So (acts user u s)
   acts-right u p x = acts-left u (split-swap p) x
 
-  pub acts-sides : (u : ℕ) {s l r : List A} → Split s l r → So (acts user u s) → So (acts user u l) ⊎ So (acts user u r)
+  acts-sides : (u : ℕ) {s l r : List A} → Split s l r → So (acts user u s) → So (acts user u l) ⊎ So (acts user u r)
   acts-sides u nil x = inl x
   acts-sides u (left {x = a} {s = s} {l = l} {r = r} p) x = go (or-split (eqb (user a) u) (acts user u s) x) (acts-sides u p)
     where
@@ -61,7 +61,7 @@ module _ {A : Type 0} (user : A → ℕ) where
       go (inl e) n f = false≢true (sym (ap not (ap (λ v. acts user v t) (so-eq (user a) u e) ∙ y)) ∙ n)
       go (inr z) n f = f z y
 
-  pub disjoint-swap : (s t : List A) → So (disjoint user s t) → So (disjoint user t s)
+  disjoint-swap : (s t : List A) → So (disjoint user s t) → So (disjoint user t s)
   disjoint-swap s t h = disjoint-in t s (λ u x y. disjoint-out s t h u y x)
 
   -- ── joining two sides ──
@@ -74,7 +74,7 @@ module _ {A : Type 0} (user : A → ℕ) where
       apart-in user g f (record { one = q .two; two = q .one; split = split-swap (q .split); for-one = q .for-two; for-two = q .for-one })
       (disjoint-swap (q .one) (q .two) d)
 
-  pub join-comm : (op : Op) (f g : Judgement A) (s : List A) → join user op f g s ≡ join user op g f s
+  join-comm : (op : Op) (f g : Judgement A) (s : List A) → join user op f g s ≡ join user op g f s
   join-comm either f g s = or-comm (f s) (g s)
   join-comm both f g s = and-comm (f s) (g s)
   join-comm together f g s = same-test (join user together f g s) (join user together g f s) (swap-together f g s) (swap-together g f s)
@@ -119,7 +119,7 @@ module _ {A : Type 0} (user : A → ℕ) where
         turned : (x y z : Judgement A) → join user op z (join user op y x) s ≡ join user op (join user op x y) z s
         turned x y z = join-comm op z (join user op y x) s ∙ ap (λ (k : Judgement A). join user op k z s) (fun-ext (join-comm op y x))
 
-  pub join-assoc : (op : Op) (f g h : Judgement A) (s : List A) → join user op (join user op f g) h s ≡ join user op f (join user op g h) s
+  join-assoc : (op : Op) (f g h : Judgement A) (s : List A) → join user op (join user op f g) h s ≡ join user op f (join user op g h) s
   join-assoc either f g h s = or-assoc (f s) (g s) (h s)
   join-assoc both f g h s = and-assoc (f s) (g s) (h s)
   join-assoc together f g h s = regroup-both together regroup-together f g h s

@@ -21,7 +21,7 @@ use Rattle.soda.proofs.Tables.{Judgement, together-out, together-in, ap
 use Rattle.soda.proofs.Joins.{disjoint-in, disjoint-out}
 
 -- ── one user ──
-pub singleton-at : (u : ℕ) → singleton u u ≡ 1
+singleton-at : (u : ℕ) → singleton u u ≡ 1
 singleton-at u = ap (λ b. cond b 1 0) (eq-so u u refl)
 
 singleton-is : (u p : ℕ) → 1 ≤ singleton u p → u ≡ p

@@ -18,13 +18,13 @@ use Rattle.soda.proofs.Words.{term-total, term-trans, term-antisym}
 use Rattle.soda.proofs.Steps.{one-turn, steps-trans, steps-back, steps-eq, steps-not, steps-plus, steps-right, steps-both, steps-fits}
 
 -- ── operators ──
-pub sameOp-refl : (op : Op) → So (sameOp op op)
+sameOp-refl : (op : Op) → So (sameOp op op)
 sameOp-refl either = refl
 sameOp-refl both = refl
 sameOp-refl together = refl
 sameOp-refl apart = refl
 
-pub sameOp-eq : (op o : Op) → So (sameOp op o) → op ≡ o
+sameOp-eq : (op o : Op) → So (sameOp op o) → op ≡ o
 sameOp-eq either = elim [ either ↦ λ e. refl | both ↦ never | together ↦ never | apart ↦ never ]
 sameOp-eq both = elim [ either ↦ never | both ↦ λ e. refl | together ↦ never | apart ↦ never ]
 sameOp-eq together = elim [ either ↦ never | both ↦ never | together ↦ λ e. refl | apart ↦ never ]
@@ -35,7 +35,7 @@ sameOp-eq apart = elim [ either ↦ never | both ↦ never | together ↦ never 
 abbrev pub Plain : Op → Term → Type 0
 Plain op φ = operands op φ ≡ φ ∷ []
 
-pub operands-same : (op : Op) (φ ψ : Term) → operands op (bin op φ ψ) ≡ operands op φ ++ operands op ψ
+operands-same : (op : Op) (φ ψ : Term) → operands op (bin op φ ψ) ≡ operands op φ ++ operands op ψ
 operands-same op φ ψ = rw (sameOp-refl op)
 
 -- Induction along a chain: a term is one operand, or two terms under the operator.
@@ -166,7 +166,7 @@ nf-turn f (back op a b c) =
     let k = and-split (fits b) (fits c) (h .1) in
     sym (nf-regroup op a b c (h .0) (k .0) (k .1))
 
-pub nf-step : {a b : Term} → So (fits a) → Step a b → normalForm a ≡ normalForm b
+nf-step : {a b : Term} → So (fits a) → Step a b → normalForm a ≡ normalForm b
 nf-step f (here t) = nf-turn f t
 nf-step f (in-not s) = ap ¬ᵗ_ (nf-step f s)
 nf-step f (in-plus s) = ap _⁺ (nf-step f s)

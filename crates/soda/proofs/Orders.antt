@@ -3,7 +3,7 @@
 use mathlib.Core.Path.{_≡_, refl, sym, _∙_, ap, ap₂, fun-ext}
 use mathlib.Core.Logic.{∥∥₁-elim}
 use mathlib.Core.Bool.{Bool, false, So, not, _&&_, _||_, cond, and-comm, and-assoc, or-comm, or-assoc, Bool-set}
-use mathlib.Core.List.{List, [], _∷_, _++_, Perm, Perm·symm, Perm·append-left, perm-middle, perm-append-singleton, List·Permᴰ, List·Permᴰ·nil, List·Permᴰ·cons, List·Permᴰ·swap, List·Permᴰ·trans, Permᴰ·refl, Permᴰ·symm}
+use mathlib.Core.List.{List, [], _∷_, _++_, Perm, Perm·symm, Perm·append-left, perm-append-singleton, List·Permᴰ, List·Permᴰ·nil, List·Permᴰ·cons, List·Permᴰ·swap, List·Permᴰ·trans, Permᴰ·refl, Permᴰ·symm}
 use Prim.Native.Nat.{ℕ, _+_}
 use lib.Dec.{eqb}
 use Rattle.soda.specs.Lists.{any, all, Split, nil, left, right}
@@ -145,21 +145,6 @@ module _ {A : Type 0} (user : A → ℕ) where
 pub order-plays-no-part : OrderPlaysNoPart
 order-plays-no-part A user met e φ i s t p = ∥∥₁-elim p (Bool-set (table user met e φ i s) (table user met e φ i t)) (table-order user met e φ i s t)
 
--- ── one element moved ──
-module _ {A : Type 0} where
-  -- from before m to behind it
-  pub perm-moved : (a : A) (l m r : List A) → Perm (l ++ (a ∷ (m ++ r))) (l ++ (m ++ (a ∷ r)))
-  perm-moved a l m r = Perm·append-left l (Perm·symm (perm-middle m r))
-
-  pub table-moved : (user : A → ℕ) (met : Term → ℕ → A → Bool) (e : Bool) (φ : Term) (i : ℕ) (a : A) (l m r : List A)
-      → table user met e φ i (l ++ (a ∷ (m ++ r))) ≡ table user met e φ i (l ++ (m ++ (a ∷ r)))
-  table-moved user met e φ i a l m r =
-      order-plays-no-part A user met e φ i (l ++ (a ∷ (m ++ r))) (l ++ (m ++ (a ∷ r))) (perm-moved a l m r)
-
-  -- to the end
-  pub perm-last : (a : A) (l m : List A) → Perm (l ++ (a ∷ m)) (l ++ (m ++ (a ∷ [])))
-  perm-last a l m = Perm·append-left l (Perm·symm (perm-append-singleton a m))
-
-  pub table-last : (user : A → ℕ) (met : Term → ℕ → A → Bool) (e : Bool) (φ : Term) (i : ℕ) (a : A) (l m : List A)
-      → table user met e φ i (l ++ (a ∷ m)) ≡ table user met e φ i (l ++ (m ++ (a ∷ [])))
-  table-last user met e φ i a l m = order-plays-no-part A user met e φ i (l ++ (a ∷ m)) (l ++ (m ++ (a ∷ []))) (perm-last a l m)
+-- one element moved to the end
+pub perm-last : {A : Type 0} (a : A) (l m : List A) → Perm (l ++ (a ∷ m)) (l ++ (m ++ (a ∷ [])))
+perm-last a l m = Perm·append-left l (Perm·symm (perm-append-singleton a m))

@@ -1,15 +1,15 @@
 -- A part of a possible list of actions is possible, and what satisfies is possible. Both hold for whatever is kept of an action.
-use mathlib.Core.Path.{_≡_, refl, sym, _∙_}
+use mathlib.Core.Path.{_≡_, refl}
 use mathlib.Core.Logic.{inl, inr}
-use mathlib.Core.Bool.{Bool, true, false, So, cond, false≢true}
-use mathlib.Core.List.{List, [], _∷_, _++_}
+use mathlib.Core.Bool.{Bool, true, false, So, cond}
+use mathlib.Core.List.{List, [], _∷_}
 use Prim.Native.Nat.{ℕ, _+_}
 use Rattle.soda.specs.Lists.{Split, nil, left, right}
-use Rattle.soda.specs.Terms.{Op, either, both, together, apart, Term, everyone, role, set, ¬ᵗ_, _⁺, bin, unit, size}
+use Rattle.soda.specs.Terms.{Op, either, both, together, apart, everyone, role, set, ¬ᵗ_, _⁺, bin, unit, size}
 use Rattle.soda.specs.Tables.{single, several, join, table}
 use Rattle.soda.specs.Accuracy.{PartIsPossible, SatisfiedIsPossible}
-use Rattle.soda.proofs.Bools.{never, not-so, and-split, and-join, or-split, or-left, or-right}
-use Rattle.soda.proofs.Splits.{split-swap, split-append, all-part, cross}
+use Rattle.soda.proofs.Bools.{never, and-split, and-join, or-split, or-left, or-right}
+use Rattle.soda.proofs.Splits.{all-part, cross}
 use Rattle.soda.proofs.Tables.{several-all, all-several, Judgement, together-out, together-in, apart-out, apart-in}
 use Rattle.soda.proofs.Joins.{acts-left, disjoint-in, disjoint-out}
 
@@ -105,25 +105,3 @@ satisfied-is-possible A user met (bin op φ ψ) i s h =
         → So (cond b (single true (met (bin op φ ψ) i) s) (join user op (F true) (G true) s))
     go true p q k = single-possible (met (bin op φ ψ) i) s k
     go false p q k = join-possible user op (F false) (G false) (F true) (G true) p q s k
-
--- ── without the last action, without the first ──
-module _ {A : Type 0} (user : A → ℕ) (met : Term → ℕ → A → Bool) (φ : Term) (i : ℕ) where
-  pub without-last : (s : List A) (a : A) → So (table user met true φ i (s ++ (a ∷ []))) → So (table user met true φ i s)
-  without-last s a = part-is-possible A user met φ i (s ++ (a ∷ [])) s (a ∷ []) (split-append s (a ∷ []))
-
-  pub without-first : (a : A) (s : List A) → So (table user met true φ i (a ∷ s)) → So (table user met true φ i s)
-  without-first a s = part-is-possible A user met φ i (a ∷ s) s (a ∷ []) (split-swap (split-append (a ∷ []) s))
-
-  -- where a part is not possible, the whole is neither possible nor satisfies
-  pub part-refused : (e : Bool) {s l r : List A} → Split s l r → table user met true φ i l ≡ false → table user met e φ i s ≡ false
-  part-refused e {s} {l} {r} d h = not-so (table user met e φ i s) (λ x. false≢true (sym h ∙ part-is-possible A user met φ i s l r d (column e x)))
-    where
-      column : (e : Bool) → So (table user met e φ i s) → So (table user met true φ i s)
-      column true x = x
-      column false x = satisfied-is-possible A user met φ i s x
-
-  pub refused-without-last : (e : Bool) (s : List A) (a : A) → table user met true φ i s ≡ false → table user met e φ i (s ++ (a ∷ [])) ≡ false
-  refused-without-last e s a = part-refused e (split-append s (a ∷ []))
-
-  pub refused-without-first : (e : Bool) (a : A) (s : List A) → table user met true φ i s ≡ false → table user met e φ i (a ∷ s) ≡ false
-  refused-without-first e a s = part-refused e (split-swap (split-append (a ∷ []) s))

@@ -44,7 +44,7 @@ module _ {A : Type 0} (le : A → A → Bool) where
   insert-ahead x (y ∷ l) h = rw h
 
   -- an ascending list is sorted already
-  pub sort-id : (l : List A) → So (ascending le l) → sort le l ≡ l
+  sort-id : (l : List A) → So (ascending le l) → sort le l ≡ l
   sort-id [] h = refl
   sort-id (x ∷ l) h = ap (insert le x) (sort-id l (ascending-tail x l h)) ∙ insert-ahead x l (ascending-head x l h)
 
@@ -66,7 +66,7 @@ module _ {A : Type 0} (le : A → A → Bool) where
 
   -- what holds of all elements holds of all elements of the sorted list
   module _ (P : A → Type 0) where
-    pub insert-all : (x : A) (l : List A) → P x → All P l → All P (insert le x l)
+    insert-all : (x : A) (l : List A) → P x → All P l → All P (insert le x l)
     insert-all x [] p q = (p, tt)
     insert-all x (y ∷ l) p q = by-test (le x y) (λ e. rw e (p, q)) λ e. rw e (q .0, insert-all x l p (q .1))
 
@@ -85,7 +85,7 @@ module _ {A : Type 0} (le : A → A → Bool) where
     ahead-insert y x [] e h = e
     ahead-insert y x (z ∷ l) e h = by-test (le x z) (λ d. rw d e) λ d. rw d h
 
-    pub insert-ascending : (x : A) (l : List A) → So (ascending le l) → So (ascending le (insert le x l))
+    insert-ascending : (x : A) (l : List A) → So (ascending le l) → So (ascending le (insert le x l))
     insert-ascending x [] h = refl
     insert-ascending x (y ∷ l) h = by-test (le x y) (λ e. rw e (ascending-cons x (y ∷ l) e h))
         λ e. rw e (ascending-cons y (insert le x l) (ahead-insert y x l (total x y e) (ascending-head y l h)) (insert-ascending x l (ascending-tail y l h)))
@@ -125,7 +125,7 @@ module _ {A : Type 0} (le : A → A → Bool) where
       merge-sort xs ys h k = merge-insertAll xs ys h ∙ ap (insertAll xs) (sym (sort-id ys k)) ∙ sym (sort-append xs ys)
 
       -- the order of two insertions does not matter
-      pub swap : (x y : A) → (So (le x y) → So (le y x) → x ≡ y) → (l : List A) → insert le x (insert le y l) ≡ insert le y (insert le x l)
+      swap : (x y : A) → (So (le x y) → So (le y x) → x ≡ y) → (l : List A) → insert le x (insert le y l) ≡ insert le y (insert le x l)
       swap x y anti [] = pair x y anti []
       swap x y anti (z ∷ l) = by-test (le x z)
           (λ p. by-test (le y z) (λ q. simp (p, q) (pair x y anti (z ∷ l))) (λ q. simp (p, q, not-so (le y x) (λ r. false≢true (sym q ∙ trans y x z r p)))))

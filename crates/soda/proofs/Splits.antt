@@ -20,7 +20,7 @@ module _ {A B : Type 0} (g : A → B) (f : B → Bool) where
   all-map (x ∷ l) = ap (λ (b : Bool). f (g x) && b) (all-map l)
 
 module _ {A : Type 0} where
-  pub any-splits : (f : List A × List A → Bool) (x : A) (s : List A)
+  any-splits : (f : List A × List A → Bool) (x : A) (s : List A)
       → any f (splits (x ∷ s)) ≡ (any (λ p. f (toLeft x p)) (splits s) || any (λ p. f (toRight x p)) (splits s))
   any-splits f x s = any-append f (map (toLeft x) (splits s)) (map (toRight x) (splits s))
       ∙ (λ i. any-map (toLeft x) f (splits s) i || any-map (toRight x) f (splits s) i)

@@ -11,12 +11,12 @@ use Rattle.soda.specs.Words.{opWord, encode, leaves, fits, declared}
 use Rattle.soda.specs.Steps.{Turn, exchange, regroup, back, Step, here, in-not, in-plus, in-left, in-right, Steps}
 
 -- ── steps as a relation ──
-pub turn-back : {a b : Term} → Turn a b → Turn b a
+turn-back : {a b : Term} → Turn a b → Turn b a
 turn-back (exchange op a b) = exchange op b a
 turn-back (regroup op a b c) = back op a b c
 turn-back (back op a b c) = regroup op a b c
 
-pub step-back : {a b : Term} → Step a b → Step b a
+step-back : {a b : Term} → Step a b → Step b a
 step-back (here t) = here (turn-back t)
 step-back (in-not s) = in-not (step-back s)
 step-back (in-plus s) = in-plus (step-back s)
@@ -48,7 +48,7 @@ steps-not = steps-in ¬ᵗ_ (λ a b s. in-not s)
 pub steps-plus : {a b : Term} → Steps a b → Steps (a ⁺) (b ⁺)
 steps-plus = steps-in _⁺ (λ a b s. in-plus s)
 
-pub steps-left : (op : Op) {a b : Term} (c : Term) → Steps a b → Steps (bin op a c) (bin op b c)
+steps-left : (op : Op) {a b : Term} (c : Term) → Steps a b → Steps (bin op a c) (bin op b c)
 steps-left op c = steps-in (λ x. bin op x c) (λ a b s. in-left s)
 
 pub steps-right : (op : Op) (a : Term) {b c : Term} → Steps b c → Steps (bin op a b) (bin op a c)
@@ -66,12 +66,12 @@ module _ {B : Type 0} (f : Term → B)
     (under-not : (a b : Term) → f a ≡ f b → f (¬ᵗ a) ≡ f (¬ᵗ b))
     (under-plus : (a b : Term) → f a ≡ f b → f (a ⁺) ≡ f (b ⁺))
     (under-bin : (op : Op) (a b c : Term) → f a ≡ f b → f (bin op a c) ≡ f (bin op b c)) where
-  pub turn-keeps : {a b : Term} → Turn a b → f a ≡ f b
+  turn-keeps : {a b : Term} → Turn a b → f a ≡ f b
   turn-keeps (exchange op a b) = exchanged op a b
   turn-keeps (regroup op a b c) = regrouped op a b c
   turn-keeps (back op a b c) = sym (regrouped op a b c)
 
-  pub step-keeps : {a b : Term} → Step a b → f a ≡ f b
+  step-keeps : {a b : Term} → Step a b → f a ≡ f b
   step-keeps (here t) = turn-keeps t
   step-keeps (in-not {a} {b} s) = under-not a b (step-keeps s)
   step-keeps (in-plus {a} {b} s) = under-plus a b (step-keeps s)
@@ -98,7 +98,7 @@ steps-formed = steps-keep formed
     (λ a b e i. (false, e i .0 && e i .1))
     (λ op a b c e i. (unitOp op && (e i .0 && unit c), e i .1 && wellFormed c))
 
-pub steps-leaves : (f g : ℕ → Bool) {a b : Term} → Steps a b → leaves f g a ≡ leaves f g b
+steps-leaves : (f g : ℕ → Bool) {a b : Term} → Steps a b → leaves f g a ≡ leaves f g b
 steps-leaves f g = steps-keep (leaves f g)
     (λ op a b. and-comm (leaves f g a) (leaves f g b))
     (λ op a b c. and-assoc (leaves f g a) (leaves f g b) (leaves f g c))
@@ -116,7 +116,7 @@ pub steps-size : {a b : Term} → Steps a b → size a ≡ size b
 steps-size = steps-keep size (λ op a b. omega arith) (λ op a b c. omega arith) (λ a b e. omega arith) (λ a b e. omega arith) (λ op a b c e. omega arith)
 
 -- how often a word occurs
-pub count-append : (w : ℕ) (l m : List ℕ) → count w (l ++ m) ≡ count w l + count w m
+count-append : (w : ℕ) (l m : List ℕ) → count w (l ++ m) ≡ count w l + count w m
 count-append w [] m = omega arith
 count-append w (x ∷ l) m = rw (count-append w l m) (omega arith)
 

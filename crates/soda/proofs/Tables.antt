@@ -4,22 +4,21 @@ use mathlib.Core.Bool.{Bool, true, false, So, not, _&&_, _||_, cond, or-self, an
 use mathlib.Core.List.{List, [], _∷_, map}
 use Prim.Native.Nat.{ℕ, _+_}
 use lib.Dec.{eqb}
-use Rattle.soda.specs.Bits.{bit}
 use Rattle.soda.specs.Lists.{any, all, splits, Split}
 use Rattle.soda.specs.Terms.{Op, either, both, together, apart, Term, everyone, role, set, ¬ᵗ_, _⁺, bin, unitOp, unit, size}
-use Rattle.soda.specs.Tables.{single, several, acts, disjoint, join, table, bitTable, Execution, metBy, judge}
+use Rattle.soda.specs.Tables.{single, several, acts, disjoint, join, table, Execution, metBy, judge}
 use Rattle.soda.specs.Accuracy.{EmptySet}
 use Rattle.soda.proofs.Bools.{never, and-split, and-join}
 use Rattle.soda.proofs.Splits.{any-map, all-map, any-splits-map, split-in, split-out}
 
 -- ── the rows ──
 module _ {A : Type 0} (e : Bool) (f g : A → Bool) where
-  pub single-or : (s : List A) → single e (λ a. f a || g a) s ≡ (single e f s || single e g s)
+  single-or : (s : List A) → single e (λ a. f a || g a) s ≡ (single e f s || single e g s)
   single-or [] = sym (or-self e)
   single-or (a ∷ []) = refl
   single-or (a ∷ b ∷ s) = refl
 
-  pub single-and : (s : List A) → single e (λ a. f a && g a) s ≡ (single e f s && single e g s)
+  single-and : (s : List A) → single e (λ a. f a && g a) s ≡ (single e f s && single e g s)
   single-and [] = sym (and-self e)
   single-and (a ∷ []) = refl
   single-and (a ∷ b ∷ s) = refl
@@ -95,21 +94,21 @@ empty-set A user met e (bin op φ ψ) i = go (unit (bin op φ ψ)) (empty-set A 
 
 -- ── mapped lists ──
 module _ {A B : Type 0} (f : A → B) where
-  pub single-map : (e : Bool) (g : B → Bool) (s : List A) → single e g (map f s) ≡ single e (λ a. g (f a)) s
+  single-map : (e : Bool) (g : B → Bool) (s : List A) → single e g (map f s) ≡ single e (λ a. g (f a)) s
   single-map e g [] = refl
   single-map e g (a ∷ []) = refl
   single-map e g (a ∷ b ∷ s) = refl
 
-  pub several-map : (e : Bool) (g : B → Bool) (s : List A) → several e g (map f s) ≡ several e (λ a. g (f a)) s
+  several-map : (e : Bool) (g : B → Bool) (s : List A) → several e g (map f s) ≡ several e (λ a. g (f a)) s
   several-map e g [] = refl
   several-map e g (a ∷ s) = all-map f g (a ∷ s)
 
   module _ (user : B → ℕ) where
-    pub disjoint-map : (s t : List A) → disjoint user (map f s) (map f t) ≡ disjoint (λ a. user (f a)) s t
+    disjoint-map : (s t : List A) → disjoint user (map f s) (map f t) ≡ disjoint (λ a. user (f a)) s t
     disjoint-map s t = all-map f (λ b. not (acts user (user b) (map f t))) s
         ∙ ap (λ (g : A → Bool). all g s) (fun-ext (λ a. ap not (any-map f (λ b. eqb (user b) (user (f a))) t)))
 
-    pub join-map : (op : Op) (F G : Judgement B) (s : List A) → join user op F G (map f s) ≡ join (λ a. user (f a)) op (λ m. F (map f m)) (λ m. G (map f m)) s
+    join-map : (op : Op) (F G : Judgement B) (s : List A) → join user op F G (map f s) ≡ join (λ a. user (f a)) op (λ m. F (map f m)) (λ m. G (map f m)) s
     join-map either F G s = refl
     join-map both F G s = refl
     join-map together F G s = any-splits-map f (λ p. F (p .0) && G (p .1)) s
@@ -151,19 +150,6 @@ module _ {A B : Type 0} (f : A → B) (user : B → ℕ) (met : Term → ℕ →
       go true u p q = single-map f e (met′ (bin op φ ψ) i) s ∙ ap (λ g. single e g s) (fun-ext (h .0 u))
       go false u p q = join-map f user op (table user met′ e φ (1 + i)) (table user met′ e ψ (1 + i + size φ)) s
           ∙ ap₂ (λ (x y : Judgement A). join (λ a. user (f a)) op x y s) (fun-ext p) (fun-ext q)
-
--- Actions of two kinds that keep the same bits are judged alike.
-module _ {A B : Type 0} (f : A → B) (user bits : B → ℕ) where
-  same-bits : (φ : Term) (i : ℕ) → Same f user (λ ψ j a. bit j (bits (f a))) (λ ψ j b. bit j (bits b)) φ i i
-  same-bits everyone i = λ a. refl
-  same-bits (role r) i = λ a. refl
-  same-bits (set m) i = λ a. refl
-  same-bits (¬ᵗ φ) i = λ a. refl
-  same-bits (φ ⁺) i = λ a. refl
-  same-bits (bin op φ ψ) i = (λ u a. refl, same-bits φ (1 + i), same-bits ψ (1 + i + size φ))
-
-  pub bitTable-map : (e : Bool) (φ : Term) (i : ℕ) (s : List A) → bitTable user bits e φ i (map f s) ≡ bitTable (λ a. user (f a)) (λ a. bits (f a)) e φ i s
-  bitTable-map e φ i s = table-map f user (λ ψ j a. bit j (bits (f a))) (λ ψ j b. bit j (bits b)) e φ i i (same-bits φ i) s
 
 -- ── over what actions mean ──
 abbrev pub who : Execution → ℕ

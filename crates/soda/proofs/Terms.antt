@@ -86,7 +86,7 @@ map-at f (x ∷ l) zero a b h = refl
 map-at f (x ∷ l) (suc i) a b h = map-at f l i a b (omega arith)
 
 module _ (f : Term → Bool) (ρ : Term) where
-  pub bit-marks : (i : ℕ) → i < size ρ → bit i (marks f ρ) ≡ f (termAt ρ i)
+  bit-marks : (i : ℕ) → i < size ρ → bit i (marks f ρ) ≡ f (termAt ρ i)
   bit-marks i h = bit-number (map f (subterms ρ)) i ∙ map-at f (subterms ρ) i everyone false (omega (arith, subterms-length ρ))
 
   pub bit-marks-past : (i : ℕ) → size ρ ≤ i → bit i (marks f ρ) ≡ false

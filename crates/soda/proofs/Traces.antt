@@ -73,7 +73,7 @@ users-executed (rmUA u r ∷ t) ua = users-executed t (revoke ua u r)
 one-met : (ua : UA) (u a : ℕ) (φ : Term) → So (unit φ) → So (judge false φ (executed ua (business u a ∷ []))) → So (meets φ u (roles ua u))
 one-met ua u a φ v h = sym (judge-unit false φ v (execution ua u ∷ [])) ∙ h
 
-pub satisfied-sound : {ua : UA} {t : Trace} {φ : Term} → SatT ua t φ → So (judge false φ (executed ua t))
+satisfied-sound : {ua : UA} {t : Trace} {φ : Term} → SatT ua t φ → So (judge false φ (executed ua t))
 satisfied-sound {ua} (t1 {u = u} {φ = φ} v s) = judge-unit false φ v (execution ua u ∷ []) ∙ meets-is-singleton ua u φ v .1 s
 satisfied-sound {ua} (t2 {t = t} a {φ = φ} h s) = ap (judge false φ) (executed-last t ua a h) ∙ satisfied-sound s
 satisfied-sound (t3 s) = satisfied-sound s

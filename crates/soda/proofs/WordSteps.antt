@@ -70,7 +70,7 @@ module _ (old new : Term) (turn : Turn old new) (layout : So (fits old)) (after 
             (bin op φ (r .0), in-right (r .1), λ i. getD (sym e i) 0 0 ∷ joined i)
       ]
 
-pub step-of-words : (φ : Term) (v : List ℕ) → So (fits φ) → WordStep (encode φ) v → (χ : Term) × Step φ χ × (v ≡ encode χ)
+step-of-words : (φ : Term) (v : List ℕ) → So (fits φ) → WordStep (encode φ) v → (χ : Term) × Step φ χ × (v ≡ encode χ)
 step-of-words φ v f s =
     let all = ap (λ (l : List ℕ). length l) (s .is-old) ∙ length-append (s .before) (encode (s .old) ++ s .after) in
     let some = length-append (encode (s .old)) (s .after) in
@@ -78,7 +78,7 @@ step-of-words φ v f s =
     let r = replace (s .old) (s .new) (s .turn) (s .layout) (s .after) φ [] (s .before) f (append-nil (encode φ) ∙ s .is-old) within in
     (r .0, r .1, s .is-new ∙ r .2 ∙ append-nil (encode (r .0)))
 
-pub steps-of-words : (φ : Term) (u v : List ℕ) → So (fits φ) → u ≡ encode φ → WordSteps u v → (χ : Term) × Steps φ χ × (v ≡ encode χ)
+steps-of-words : (φ : Term) (u v : List ℕ) → So (fits φ) → u ≡ encode φ → WordSteps u v → (χ : Term) × Steps φ χ × (v ≡ encode χ)
 steps-of-words φ u v f e (WordSteps.none g) = (φ, Steps.none, sym g ∙ e)
 steps-of-words φ u v f e (WordSteps.step {v = m} s p) =
     let r = step-of-words φ m f (subst (λ (l : List ℕ). WordStep l m) e s) in
@@ -96,10 +96,10 @@ words-around p q f (in-left {op} {a} {b} {c} s) =
 words-around p q f (in-right {op} {a} {b} {c} s) =
     simp append-assoc (simp append-assoc at (words-around (p ++ (opWord op ∷ encode a)) q (and-split (fits a) (fits b) f .1) s))
 
-pub words-of-step : {a b : Term} → So (fits a) → Step a b → WordStep (encode a) (encode b)
+words-of-step : {a b : Term} → So (fits a) → Step a b → WordStep (encode a) (encode b)
 words-of-step f s = simp append-nil at (words-around [] [] f s)
 
-pub words-of-steps : {a b : Term} → So (fits a) → Steps a b → WordSteps (encode a) (encode b)
+words-of-steps : {a b : Term} → So (fits a) → Steps a b → WordSteps (encode a) (encode b)
 words-of-steps f Steps.none = WordSteps.none refl
 words-of-steps f (Steps.step s p) = WordSteps.step (words-of-step f s) (words-of-steps (sym (steps-fits (Steps.step s Steps.none)) ∙ f) p)
 

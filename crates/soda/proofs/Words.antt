@@ -28,7 +28,7 @@ le-below a b u v h = or-left (ltb a b) (eqb a b && wordsLe u v) (lt-so a b h)
 le-beside : (a b : ℕ) (u v : List ℕ) → a ≡ b → So (wordsLe u v) → So (wordsLe (a ∷ u) (b ∷ v))
 le-beside a b u v e h = or-right (ltb a b) (eqb a b && wordsLe u v) (and-join (eqb a b) (wordsLe u v) (eq-so a b e) h)
 
-pub words-total : (u v : List ℕ) → wordsLe u v ≡ false → So (wordsLe v u)
+words-total : (u v : List ℕ) → wordsLe u v ≡ false → So (wordsLe v u)
 words-total [] v e = absurd (true≢false e)
 words-total (a ∷ u) [] e = refl
 words-total (a ∷ u) (b ∷ v) e = elim (order a b) [
@@ -49,7 +49,7 @@ words-trans (a ∷ u) (b ∷ v) (c ∷ w) p q = elim (le-cons a b u v p) [
   ]
 ]
 
-pub words-antisym : (u v : List ℕ) → So (wordsLe u v) → So (wordsLe v u) → u ≡ v
+words-antisym : (u v : List ℕ) → So (wordsLe u v) → So (wordsLe v u) → u ≡ v
 words-antisym [] [] p q = refl
 words-antisym [] (b ∷ v) p q = never q
 words-antisym (a ∷ u) [] p q = never p
@@ -95,7 +95,7 @@ abbrev pub code : Term → ℕ
 code φ = word (tag φ) (operand φ)
 
 -- a term's words are the first words of the terms that begin at them
-pub encode-codes : (φ : Term) → encode φ ≡ map code (subterms φ)
+encode-codes : (φ : Term) → encode φ ≡ map code (subterms φ)
 encode-codes everyone = refl
 encode-codes (role r) = refl
 encode-codes (set m) = refl
@@ -201,7 +201,7 @@ pub encode-inj : (φ ψ : Term) → So (fits φ) → So (fits ψ) → encode φ 
 encode-inj φ ψ f g e = words-are-one-term φ ψ [] [] f g (ap (λ (l : List ℕ). l ++ []) e) .0
 
 -- no term's words begin another term's
-pub no-prefix : (φ ψ : Term) (m : List ℕ) → So (fits φ) → So (fits ψ) → encode φ ++ m ≡ encode ψ → φ ≡ ψ
+no-prefix : (φ ψ : Term) (m : List ℕ) → So (fits φ) → So (fits ψ) → encode φ ++ m ≡ encode ψ → φ ≡ ψ
 no-prefix φ ψ m f g e = words-are-one-term φ ψ m [] f g (e ∙ sym (append-nil (encode ψ))) .0
 
 -- ── the order on terms ──
