@@ -130,8 +130,8 @@ fn users() {
 
 // One action by user 0; prints its number.
 fn act(monitor: Monitor) -> Monitor {
-    let mut room = [0u32; 8192];
-    let answer = monitor.event(0x0100_0000, &mut room);
+    let mut workspace = [0u32; 8192];
+    let answer = monitor.event(0x0100_0000, &mut workspace);
     say(b"action: ", answer.code);
     answer.monitor
 }
@@ -145,8 +145,8 @@ fn actions() {
     let full = act(act(act(act(act(eight)))));
     let instance = full.instance;
     say(b"taken: ", instance.taken);
-    let mut room = [0u32; 8192];
-    say_status(b"status: ", full.status(&mut room));
+    let mut workspace = [0u32; 8192];
+    say_status(b"status: ", full.status(&mut workspace));
 }
 
 fn workspaces() {
@@ -165,15 +165,15 @@ fn workspaces() {
         b"8191 words, multiset: ",
         monitor::satisfies(1, 1, &plus, &rows, counts, &mut short),
     );
-    let mut room = [0u32; 8192];
+    let mut workspace = [0u32; 8192];
     say(
         b"8192 words, action: ",
-        opened.event(0x0100_0000, &mut room).code,
+        opened.event(0x0100_0000, &mut workspace).code,
     );
-    say_status(b"8192 words, status: ", opened.status(&mut room));
+    say_status(b"8192 words, status: ", opened.status(&mut workspace));
     say_verdict(
         b"8192 words, multiset: ",
-        monitor::satisfies(1, 1, &plus, &rows, counts, &mut room),
+        monitor::satisfies(1, 1, &plus, &rows, counts, &mut workspace),
     );
 }
 

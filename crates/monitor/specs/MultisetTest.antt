@@ -50,14 +50,14 @@ listed u (k ∷ l) = replicate k u ++ listed (suc u) l
 abbrev pub notedBy : Opening → ℕ → Action
 notedBy o u = noted (o .words) u (roles (o .rows) u)
 
--- 12, the opening's order, 7, 8; room is the length of the workspace
+-- 12, the opening's order, 7, 8; n is the length of the workspace
 unfoldable pub testRefusals : Opening → List ℕ → ℕ → List (Bool × ℕ)
-testRefusals o counts room =
-    (ltb room 8192 gives WORKSPACE)
+testRefusals o counts n =
+    (ltb n 8192 gives WORKSPACE)
     ∷ (openRefusals o ++ ((not (all isZero (drop (o .users) counts)) gives MALFORMED) ∷ (ltb 12 (total counts) gives FULL) ∷ []))
 
 abbrev pub testCode : Opening → List ℕ → ℕ → ℕ
-testCode o counts room = code (testRefusals o counts room)
+testCode o counts n = code (testRefusals o counts n)
 
 -- the number and the letter: yes exactly when the actions satisfy the policy; their order plays no part (`TestIsMultiset` of claims)
 pub record TestOutcome : Type 0 where
@@ -65,9 +65,9 @@ pub record TestOutcome : Type 0 where
   pub letter : ℕ
 
 unfoldable pub testOf : Opening → List ℕ → ℕ → TestOutcome
-testOf o counts room = record {
-  code = testCode o counts room;
-  letter = cond (eqb (testCode o counts room) 0) (cond (satisfied (policy o) 0 (map (notedBy o) (listed 0 counts))) letterY letterN) 0;
+testOf o counts n = record {
+  code = testCode o counts n;
+  letter = cond (eqb (testCode o counts n) 0) (cond (satisfied (policy o) 0 (map (notedBy o) (listed 0 counts))) letterY letterN) 0;
 }
 
 -- The order in which the multiset's actions are numbered is left to the program: the workspace fits some numbering. A refusal

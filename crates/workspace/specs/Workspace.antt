@@ -41,14 +41,14 @@ tableOf φ l = column false φ l ++ column true φ l
 
 -- words from 8,192 on keep what they had
 unfoldable pub filled : Term → List Action → List ℕ → List ℕ
-filled φ l room = tableOf φ l ++ drop 8192 room
+filled φ l workspace = tableOf φ l ++ drop 8192 workspace
 
 -- The fill is a helper that crates share, so it is total: it fills for words that are a well-formed term, at most twelve actions
 -- by users below 16, and a workspace long enough; else it leaves the workspace as it was.
 abbrev pub isFillable : Option Term → List Action → List ℕ → Bool
-isFillable none l room = false
-isFillable (some φ) l room = wellFormed φ && (all (λ a. ltb (a .user) 16) l && leb 8192 (length room))
+isFillable none l workspace = false
+isFillable (some φ) l workspace = wellFormed φ && (all (λ a. ltb (a .user) 16) l && leb 8192 (length workspace))
 
 unfoldable pub fillOf : List ℕ → List Action → ℕ → List ℕ → List ℕ
-fillOf words actions n room =
-    cond (lengthOk (length words) && (leb n 12 && isFillable (decode words) (take n actions) room)) (filled (termOf (decode words)) (take n actions) room) room
+fillOf words actions n workspace =
+    cond (lengthOk (length words) && (leb n 12 && isFillable (decode words) (take n actions) workspace)) (filled (termOf (decode words)) (take n actions) workspace) workspace
