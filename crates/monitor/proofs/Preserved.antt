@@ -17,19 +17,20 @@ use Rattle.soda.specs.Bits.{number, setBit, clearBit}
 use Rattle.soda.specs.Lists.{all, padded}
 use Rattle.soda.specs.Terms.{Term, unit, subterms}
 use Rattle.soda.specs.Roles.{meets}
-use Rattle.soda.proofs.Bools.{never, and-split, and-join, so-lt, lt-so, eq-so, by-test}
+use Rattle.soda.proofs.Bools.{never, and-split, and-join, so-lt, lt-so, eq-so, so-eq, by-test}
 use Rattle.soda.proofs.Bits.{half-digit}
 use Rattle.soda.proofs.Splits.{split-append, all-parts}
 use Rattle.policy.specs.Words.{decode}
 use Rattle.policy.specs.Reading.{lengthOk, unitsOf, metIn, metOf}
 use Rattle.policy.proofs.Refusals.{clear, clear-code}
+use Rattle.monitor.specs.declared.Monitor.{Monitor}
 use Rattle.monitor.specs.declared.Configuration.{Configuration}
 use Rattle.monitor.specs.declared.Instance.{Instance}
 use Rattle.monitor.specs.declared.Event.{Event}
 use Rattle.monitor.specs.declared.Event.the-variants.{Acts, Grants, Revokes, Closes, Malformed}
 use Rattle.monitor.specs.Configurations.{assignment, held, withRow, isZero, configurationOf}
 use Rattle.monitor.specs.Instances.{policyOf, takenOf, notedFor, withAction, instanceOf, actionOk, isIdle, noAction}
-use Rattle.monitor.specs.Monitors.{Opening, openCode, fresh}
+use Rattle.monitor.specs.Monitors.{Opening, openCode, fresh, wellFormed}
 use Rattle.monitor.specs.Events.{eventIn, ownRefusals, applied, outcome}
 use Rattle.monitor.specs.Effects.{OpenedIsWellFormed, AcceptedStaysWellFormed}
 use Rattle.monitor.specs.Private.{Entered}
@@ -74,10 +75,10 @@ met-units words u h = by-test (lengthOk (length words)) (λ p. rw p (go (decode 
     go (some φ) = number-and (λ ψ. meets ψ u h) unit (subterms φ)
 
 -- ── rows below their limit ──
-pub set-below : (r n h : ℕ) → r < n → h < 2 ^ n → setBit r h < 2 ^ n
+set-below : (r n h : ℕ) → r < n → h < 2 ^ n → setBit r h < 2 ^ n
 set-below r n h l b = rw (← or-is-set h r) (or-lt n h (2 ^ r) b (pow-lt l))
 
-pub clear-below : (r n h : ℕ) → h < 2 ^ n → clearBit r h < 2 ^ n
+clear-below : (r n h : ℕ) → h < 2 ^ n → clearBit r h < 2 ^ n
 clear-below r n h b = rw (← sub-is-clear h r) (omega arith)
 
 -- ── a configuration with another row ──
@@ -116,7 +117,7 @@ module _ (c : Configuration) (i : Instance) (f : InstanceFormed c i) where
     places-idle = f .places-idle;
   }
 
-  pub action-formed : (u : ℕ) → u < c .users → i .taken < 12 → length (i .actions) ≡ 12 → InstanceFormed c (withAction i (notedFor c i u))
+  action-formed : (u : ℕ) → u < c .users → i .taken < 12 → length (i .actions) ≡ 12 → InstanceFormed c (withAction i (notedFor c i u))
   action-formed u l free n = record {
     words-most = f .words-most;
     read = f .read;
@@ -207,3 +208,9 @@ accepted-stays-well-formed m w before n z =
       };
     }
     go Malformed p f d = absurd d
+
+-- whatever an event answers
+pub left-formed : (m : Monitor) (w : ℕ) (before : List ℕ) → length (m .instance .actions) ≡ 12 → So (wellFormed m) → So (wellFormed (outcome m w before .monitor))
+unfolding outcome
+left-formed m w before n h =
+    by-test (eqb (outcome m w before .code) 0) (λ t. accepted-stays-well-formed m w before n (so-eq (outcome m w before .code) 0 t)) (λ f. rw f h)

@@ -48,20 +48,22 @@ module _ (e : Bool) (φ : Term) (l : List Action) where
   column-last cap =
       ap (bit 0) (column-at φ l cap e (2 ^ length l - 1) (omega (arith, pow-pos (length l)))) ∙ row-whole (2 ^ length l - 1) ∙ ap (verdictOf e φ) (select-all l)
 
-module _ (φ : Term) (l : List Action) (room : List ℕ) (few : length l ≤ 12) where
+-- bit 0 as the code tests it
+low-bit : (n : ℕ) → eqb (bitAnd n 1) 1 ≡ bit 0 n
+low-bit n = let e : n % 2 ≡ n / 1 % 2 = omega arith in ap (λ (k : ℕ). eqb k 1) (and-mask n 1 ∙ e)
+
+-- what the code reads at the mask of all actions
+module _ (φ : Term) (l : List Action) (few : length l ≤ 12) (before after : List ℕ) (is : after ≡ filled φ l before) (mask : ℕ) (ones : mask ≡ 2 ^ length l - 1) where
   cap : 2 ^ length l ≤ 4096
   cap = pow-mono {j = 12} few
 
-  -- the last word of all actions, in each half
   last-low : 2 ^ length l - 1 < 4096
   last-low = omega (arith, cap, pow-pos (length l))
 
-  pub satisfied-read : bit 0 (getD (filled φ l room) (2 ^ length l - 1) 0) ≡ satisfied φ 0 l
-  satisfied-read = ap (bit 0) (filled-low φ l cap room (2 ^ length l - 1) last-low) ∙ column-last false φ l cap
+  pub satisfied-read : eqb (bitAnd (getD after mask 0) 1) 1 ≡ satisfied φ 0 l
+  satisfied-read =
+      low-bit (getD after mask 0) ∙ rw (is, ones) (ap (bit 0) (filled-low φ l cap before (2 ^ length l - 1) last-low) ∙ column-last false φ l cap)
 
-  pub possible-read : bit 0 (getD (filled φ l room) (4096 + (2 ^ length l - 1)) 0) ≡ possible φ 0 l
-  possible-read = ap (bit 0) (filled-high φ l cap room (2 ^ length l - 1) last-low) ∙ column-last true φ l cap
-
--- bit 0 as the code tests it
-pub low-bit : (n : ℕ) → eqb (bitAnd n 1) 1 ≡ bit 0 n
-low-bit n = let e : n % 2 ≡ n / 1 % 2 = omega arith in ap (λ (k : ℕ). eqb k 1) (and-mask n 1 ∙ e)
+  pub possible-read : eqb (bitAnd (getD after (4096 + mask) 0) 1) 1 ≡ possible φ 0 l
+  possible-read =
+      low-bit (getD after (4096 + mask) 0) ∙ rw (is, ones) (ap (bit 0) (filled-high φ l cap before (2 ^ length l - 1) last-low) ∙ column-last true φ l cap)

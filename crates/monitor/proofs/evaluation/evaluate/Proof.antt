@@ -1,17 +1,17 @@
 -- The workspace is filled for the taken actions; bit 0 of the words at the mask of all of them is read.
 use mathlib.Core.Path.{_≡_, sym, _∙_}
-use Prim.Native.Nat.{ℕ, _+_, _-_, _*_, _%_, _^_, _≤_}
+use Prim.Native.Nat.{ℕ, _-_, _*_, _%_, _^_, _≤_}
 use native.Mathlib.Omega.{arith}
 use borrow.Author.Needs.{needs}
 use mathlib.Core.List.{List}
-use lib.ListN.{length, getD}
+use lib.ListN.{length}
 use lib.Pow.{pow-pos, pow-mono}
 use lib.Seq.{length-take-le}
 use Rattle.workspace.specs.Workspace.{filled}
 use Rattle.monitor.specs.Instances.{term, takenOf}
 use Rattle.soda.proofs.Bits.{one-shl}
 use Rattle.monitor.proofs.Loops.{length-mapped}
-use Rattle.monitor.proofs.Verdicts.{satisfied-read, possible-read, low-bit}
+use Rattle.monitor.proofs.Verdicts.{satisfied-read, possible-read}
 use Rattle.monitor.proofs.Fillable.{taken-few, room-long, fill-is}
 use Rattle.monitor.proofs.evaluation.evaluate.Statement.{statement}
 use Rattle.monitor.proofs.evaluation.evaluate.Tie as tie
@@ -39,17 +39,32 @@ module _ (s : tie.Start) where
   low : 2 ^ (s .args .instance .taken) ≤ 4096
   low = pow-mono few
 
+-- ── the stages ──
+-- the parts lent to the fill
+abbrev lent : tie.After-policy → tie.Start
+lent c = c .before .before
+
+abbrev asked : tie.After-actions → tie.Start
+asked c = lent (c .before .before)
+
+-- the fill, and behind it the reading of its two words
+abbrev start : tie.After-fill → tie.Start
+start f = asked (f .before .before .before)
+
+abbrev called : tie.After-slice-known2 → tie.After-fill
+called c = c .before .before
+
 cast-words : tie.Need-cast-words
 cast-words c = search needs
 
 array-share-prefix-policy : tie.Need-array-share-prefix-policy
 array-share-prefix-policy c =
-    let s = c .before .before .before .before in
+    let s = asked c in
     omega (arith, s .pre .words-most, policy-length s)
 
 slice-aggregate-fill : tie.Need-slice-aggregate-fill
 slice-aggregate-fill c =
-    let s = c .before .before .before .before .before in
+    let s = asked (c .before) in
     sym (length-take-le (s .args .instance .words) (s .args .instance .policy) (omega (arith, s .pre .words-most, policy-length s)))
 
 fill-requires : tie.Need-fill-requires
@@ -59,38 +74,38 @@ cast-all : tie.Need-cast-all
 cast-all c = search needs
 
 shl-all : tie.Need-shl-all
-shl-all c = omega (arith, few (c .before .before .before .before .before .before .before .before .before))
+shl-all c = omega (arith, few (start (called c)))
 
 sub-all : tie.Need-sub-all
 sub-all c =
-    let s = c .before .before .before .before .before .before .before .before .before in
+    let s = start (called c) in
     omega (arith, shifted s, pow-pos (s .args .instance .taken))
 
 mul-satisfied : tie.Need-mul-satisfied
 mul-satisfied c =
-    let s = c .before .before .before .before .before .before .before .before .before in
+    let s = start (called c) in
     omega (arith, shifted s, low s)
 
 slice-read-satisfied : tie.Need-slice-read-satisfied
 slice-read-satisfied c =
-    let f = c .before .before .before in
-    let s = f .before .before .before .before .before .before .before in
+    let f = called (c .before) in
+    let s = start f in
     omega (arith, shifted s, low s, long s, f .fill .kept .1 .1 .1 .0)
 
 add-possible : tie.Need-add-possible
 add-possible c =
-    let s = c .before .before .before .before .before .before .before .before .before .before in
+    let s = start (called (c .before)) in
     omega (arith, shifted s, low s)
 
 mul-possible : tie.Need-mul-possible
 mul-possible c =
-    let s = c .before .before .before .before .before .before .before .before .before .before in
+    let s = start (called (c .before)) in
     omega (arith, shifted s, low s)
 
 slice-read-possible : tie.Need-slice-read-possible
 slice-read-possible c =
-    let f = c .before .before .before .before in
-    let s = f .before .before .before .before .before .before .before in
+    let f = called (c .before .before) in
+    let s = start f in
     omega (arith, shifted s, low s, long s, pow-pos (s .args .instance .taken), f .fill .kept .1 .1 .1 .0)
 
 same-length : tie.Need-same-length
@@ -98,17 +113,19 @@ same-length c = search needs
 
 returns : tie.Need-returns
 returns c =
-    let f = c .before .before .before .before in
-    let s = f .before .before .before .before .before .before .before in
+    let f = called (c .before .before) in
+    let s = start f in
     let i = s .args .instance in
+    let before : List ℕ = s .args .workspace .now in
     let after : List ℕ = f .fill .last .1 .1 .1 .0 in
-    let room : after ≡ filled (term i) (takenOf i) (s .args .workspace .now) = f .fill .ensures ∙ fill-is i (s .args .workspace .now) (s .pre) in
-    let all : 1 * 2 ^ (i .taken) % 2 ^ 64 - 1 ≡ 2 ^ length (takenOf i) - 1 = rw (count s) (omega (arith, shifted s)) in
+    let is : after ≡ filled (term i) (takenOf i) before = f .fill .ensures ∙ fill-is i before (s .pre) in
+    let mask : ℕ = 1 * 2 ^ (i .taken) % 2 ^ 64 - 1 in
+    let ones : mask ≡ 2 ^ length (takenOf i) - 1 = rw (count s) (omega (arith, shifted s)) in
     let few : length (takenOf i) ≤ 12 = omega (arith, count s, few s) in
     record {
-      is-satisfied = low-bit (getD after (1 * 2 ^ (i .taken) % 2 ^ 64 - 1) 0) ∙ rw (room, all) (satisfied-read (term i) (takenOf i) (s .args .workspace .now) few);
-      is-possible = low-bit (getD after (4096 + (1 * 2 ^ (i .taken) % 2 ^ 64 - 1)) 0) ∙ rw (room, all) (possible-read (term i) (takenOf i) (s .args .workspace .now) few);
-      workspace = room;
+      is-satisfied = satisfied-read (term i) (takenOf i) few before after is mask ones;
+      is-possible = possible-read (term i) (takenOf i) few before after is mask ones;
+      workspace = is;
     }
 
 pub evaluate-spec : {M : Type 1} → statement M
