@@ -6,6 +6,5 @@ pub mod Decimals
 pub mod Writing
 -- Runs: numbers, instances, lines, and the actions taken.
 pub mod Refusing
-pub mod Keeping
-pub mod Growing
+pub mod Lines
 pub mod Taken

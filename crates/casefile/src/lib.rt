@@ -23,8 +23,8 @@ pub enum Printed {
     TooShort,
 }
 
-// Judges a case: writes the text that the judge prints at the start of the output.
-pub fn judge(bytes: &[u8], out: &mut [u8]) -> Printed
+// Runs a case: the text that the judge prints stands at the start of the output.
+pub fn print_case(bytes: &[u8], out: &mut [u8]) -> Printed
     ensures { λ r. ⌜ (r ≡ printed (now (bytes .entry)) (length (now (out .entry)))) × (now (out .exit) ≡ output (now (bytes .entry)) (now (out .entry))) ⌝ }
 {
     if out.len() < LIMIT {

@@ -9,7 +9,7 @@ fn main() {
     let mut bytes = [0u8; 4097];
     let read = io::read_full(STDIN_FILENO, &mut bytes);
     let mut out = [0u8; LIMIT];
-    let Printed::Written(length) = casefile::judge(&bytes[..read], &mut out) else {
+    let Printed::Written(length) = casefile::print_case(&bytes[..read], &mut out) else {
         return;
     };
     io::write_all(STDOUT_FILENO, &out[..length]);

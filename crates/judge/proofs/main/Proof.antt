@@ -29,12 +29,15 @@ fits bytes out {n} {new} l e f k =
 
 -- the text, once it is written
 module _ (c : tie.After-known-told) where
+  abbrev called : tie.After-print-case
+  called = c .before .before .before .before
+
   abbrev new : List ℕ
-  new = c .before .before .before .before .judge .last .1 .0
+  new = called .print-case .last .1 .0
 
   within : c .before .length .given .0 .0 ≤ length new
   within =
-      let j = c .before .before .before .before .judge in
+      let j = called .print-case in
       fits _ (replicate 2313 0) (omega arith) (sym (c .before .length .given .1) ∙ j .ensures .0) (j .ensures .1) (j .kept .1 .0)
 
 slice-aggregate-read-full : tie.Need-slice-aggregate-read-full
@@ -46,14 +49,14 @@ read-full-requires c κs = search needs
 array-share-prefix-bytes : tie.Need-array-share-prefix-bytes
 array-share-prefix-bytes c = search needs
 
-slice-aggregate-judge : tie.Need-slice-aggregate-judge
-slice-aggregate-judge c = search needs
+slice-aggregate-print-case : tie.Need-slice-aggregate-print-case
+slice-aggregate-print-case c = search needs
 
-slice-aggregate-judge-2 : tie.Need-slice-aggregate-judge-2
-slice-aggregate-judge-2 c = search needs
+slice-aggregate-print-case-2 : tie.Need-slice-aggregate-print-case-2
+slice-aggregate-print-case-2 c = search needs
 
-judge-requires : tie.Need-judge-requires
-judge-requires c κs = search needs
+print-case-requires : tie.Need-print-case-requires
+print-case-requires c κs = search needs
 
 enum-known-length : tie.Need-enum-known-length
 enum-known-length c = search needs
@@ -83,9 +86,9 @@ main-spec =
     slice-aggregate-read-full
     read-full-requires
     array-share-prefix-bytes
-    slice-aggregate-judge
-    slice-aggregate-judge-2
-    judge-requires
+    slice-aggregate-print-case
+    slice-aggregate-print-case-2
+    print-case-requires
     enum-known-length
     enum-told
     returns

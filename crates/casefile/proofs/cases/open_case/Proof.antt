@@ -15,26 +15,55 @@ use Rattle.casefile.proofs.cases.open_case.Tie as tie
 layout : (s : tie.Start) → Laid (s .args .bytes .now)
 layout s = laid (s .args .bytes .now) (s .pre)
 
+-- ── the stages ──
+abbrev begun : tie.After-length-of → tie.Start
+begun l = l .before .before
+
+-- the words are filled in
+abbrev counted : tie.After-fill-words → tie.After-length-of
+counted w = w .before .before .before
+
+abbrev start : tie.After-fill-words → tie.Start
+start w = begun (counted w)
+
+-- the rows are filled in
+abbrev filled : tie.After-offset-of2 → tie.After-fill-words
+filled o = o .before .before
+
+abbrev placed : tie.After-fill-rows → tie.After-offset-of2
+placed r = r .before .before .before
+
+abbrev first : tie.After-fill-rows → tie.After-fill-words
+first r = filled (placed r)
+
+-- the counts are read, the arrays' parts lent
+abbrev read : tie.After-shared-slice-known2 → tie.After-fill-rows
+read c = c .before .before
+
+abbrev lent : tie.After-words3 → tie.After-fill-rows
+lent c = read (c .before .before)
+
+-- ── the calls ──
 length-of-requires : tie.Need-length-of-requires
 length-of-requires c κs = let l = layout (c .before) in omega arith
 
 offset-of-requires : tie.Need-offset-of-requires
-offset-of-requires c κs = let l = layout (c .before .before) in omega arith
+offset-of-requires c κs = let l = layout (begun c) in omega arith
 
 slice-aggregate-fill-words : tie.Need-slice-aggregate-fill-words
 slice-aggregate-fill-words c = search needs
 
 fill-words-requires : tie.Need-fill-words-requires
-fill-words-requires c κs = let l = layout (c .before .before .before .before) in omega arith
+fill-words-requires c κs = let l = layout (begun (c .before .before)) in omega arith
 
 offset-of-requires-2 : tie.Need-offset-of-requires-2
-offset-of-requires-2 c κs = let l = layout (c .before .before .before .before .before .before) in omega arith
+offset-of-requires-2 c κs = let l = layout (start (c .before)) in omega arith
 
 length-of-requires-2 : tie.Need-length-of-requires-2
-length-of-requires-2 c κs = let l = layout (c .before .before .before .before .before .before .before) in omega arith
+length-of-requires-2 c κs = let l = layout (start (filled c)) in omega arith
 
 sub-users : tie.Need-sub-users
-sub-users c = let l = layout (c .before .before .before .before .before .before .before .before) in omega arith
+sub-users c = let l = layout (start (filled (c .before))) in omega arith
 
 add-fill-rows : tie.Need-add-fill-rows
 add-fill-rows c = omega arith
@@ -43,32 +72,32 @@ slice-aggregate-fill-rows : tie.Need-slice-aggregate-fill-rows
 slice-aggregate-fill-rows c = search needs
 
 fill-rows-requires : tie.Need-fill-rows-requires
-fill-rows-requires c κs = let l = layout (c .before .before .before .before .before .before .before .before .before) in omega arith
+fill-rows-requires c κs = let l = layout (start (filled (c .before .before))) in omega arith
 
 shared-slice-read-open : tie.Need-shared-slice-read-open
-shared-slice-read-open c = let l = layout (c .before .before .before .before .before .before .before .before .before .before .before .before) in omega arith
+shared-slice-read-open c = let l = layout (start (first (read c))) in omega arith
 
 add-open : tie.Need-add-open
-add-open c = let l = layout (c .before .before .before .before .before .before .before .before .before .before .before .before) in omega arith
+add-open c = let l = layout (start (first (read c))) in omega arith
 
 shared-slice-read-open-2 : tie.Need-shared-slice-read-open-2
-shared-slice-read-open-2 c = let l = layout (c .before .before .before .before .before .before .before .before .before .before .before .before .before) in omega arith
+shared-slice-read-open-2 c = let l = layout (start (first (read (c .before)))) in omega arith
 
 -- the words, of which there are enough
 module _ (c : tie.After-fill-words) where
   abbrev count : ℕ
-  count = c .before .before .before .length-of .result / 4
+  count = counted c .length-of .result / 4
 
   abbrev words : List ℕ
   words = c .fill-words .last .1 .1 .1 .0
 
   words-enough : count ≤ length words
-  words-enough = let l = layout (c .before .before .before .before .before) in omega (arith, c .fill-words .kept .1 .1 .1 .0)
+  words-enough = let l = layout (start c) in omega (arith, c .fill-words .kept .1 .1 .1 .0)
 
-  words-are : take count words ≡ openingOf (c .before .before .before .before .before .args .bytes .now) .words
+  words-are : take count words ≡ openingOf (start c .args .bytes .now) .words
   words-are =
-      let b : List ℕ = c .before .before .before .before .before .args .bytes .now in
-      c .fill-words .ensures ∙ ap₂ (λ (k n : ℕ). wides b k (n / 4)) (c .before .before .offset-of .ensures .0) (c .before .before .before .length-of .ensures .0)
+      let b : List ℕ = start c .args .bytes .now in
+      c .fill-words .ensures ∙ ap₂ (λ (k n : ℕ). wides b k (n / 4)) (c .before .before .offset-of .ensures .0) (counted c .length-of .ensures .0)
 
 -- the rows, of which there are enough
 module _ (c : tie.After-fill-rows) where
@@ -79,35 +108,35 @@ module _ (c : tie.After-fill-rows) where
   rows = c .fill-rows .last .1 .1 .1 .0
 
   rows-enough : users ≤ length rows
-  rows-enough = let l = layout (c .before .before .before .before .before .before .before .before .before .before) in omega (arith, c .fill-rows .kept .1 .1 .1 .0)
+  rows-enough = let l = layout (start (first c)) in omega (arith, c .fill-rows .kept .1 .1 .1 .0)
 
-  rows-are : take users rows ≡ openingOf (c .before .before .before .before .before .before .before .before .before .before .args .bytes .now) .rows
+  rows-are : take users rows ≡ openingOf (start (first c) .args .bytes .now) .rows
   rows-are =
-      let b : List ℕ = c .before .before .before .before .before .before .before .before .before .before .args .bytes .now in
-      c .fill-rows .ensures ∙ ap₂ (λ (k n : ℕ). halves b (k + 2) ((n - 2) / 2)) (c .before .before .before .offset-of2 .ensures .0) (c .before .before .length-of2 .ensures .0)
+      let b : List ℕ = start (first c) .args .bytes .now in
+      c .fill-rows .ensures ∙ ap₂ (λ (k n : ℕ). halves b (k + 2) ((n - 2) / 2)) (placed c .offset-of2 .ensures .0) (c .before .before .length-of2 .ensures .0)
 
 array-share-prefix-words : tie.Need-array-share-prefix-words
-array-share-prefix-words c = words-enough (c .before .before .before .before .before .before .before .before)
+array-share-prefix-words c = words-enough (first (read (c .before)))
 
 slice-aggregate-open : tie.Need-slice-aggregate-open
-slice-aggregate-open c = let f = c .before .before .before .before .before .before .before .before .before in sym (length-take-le (count f) (words f) (words-enough f))
+slice-aggregate-open c = let f = first (lent c) in sym (length-take-le (count f) (words f) (words-enough f))
 
 array-share-prefix-rows : tie.Need-array-share-prefix-rows
-array-share-prefix-rows c = rows-enough (c .before .before .before .before)
+array-share-prefix-rows c = rows-enough (lent c)
 
 slice-aggregate-open-2 : tie.Need-slice-aggregate-open-2
-slice-aggregate-open-2 c = let f = c .before .before .before .before .before in sym (length-take-le (users f) (rows f) (rows-enough f))
+slice-aggregate-open-2 c = let f = lent (c .before) in sym (length-take-le (users f) (rows f) (rows-enough f))
 
 open-requires : tie.Need-open-requires
 open-requires c κs = search needs
 
 returns : tie.Need-returns
 returns c =
-    let r = c .before .before .before .before .before .before in
-    let w = r .before .before .before .before .before in
-    let b : List ℕ = w .before .before .before .before .before .args .bytes .now in
+    let r = lent (c .before .before) in
+    let w = first r in
+    let b : List ℕ = start w .args .bytes .now in
     c .«open» .ensures
-    ∙ ap (λ (k : ℕ). opening (given (getD b k 0) (getD b (k + 1) 0) (take (count w) (words w)) (take (users r) (rows r)))) (r .before .before .before .offset-of2 .ensures .0)
+    ∙ ap (λ (k : ℕ). opening (given (getD b k 0) (getD b (k + 1) 0) (take (count w) (words w)) (take (users r) (rows r)))) (placed r .offset-of2 .ensures .0)
     ∙ ap₂ (λ (p g : List ℕ). opening (given (openingOf b .users) (openingOf b .roles) p g)) (words-are w) (rows-are r)
 
 pub open-case-spec : {M : Type 1} → statement M

@@ -48,15 +48,22 @@ length-of-requires-2 c κs = search needs
 add-if3 : tie.Need-add-if3
 add-if3 c = omega arith
 
-grants-begin : (c : tie.Else2) → let b = c .before .before .before .before .before .before .args .bytes .now in eqb (offset b 1) (offset b 0 + partLength b 0) ≡ true
+-- the bytes, where the policy begins as it must and the grants do
+abbrev begun : tie.Else1 → List ℕ
+begun e = e .before .before .before .args .bytes .now
+
+abbrev bytes : tie.Else2 → List ℕ
+bytes e = begun (e .before .before .before)
+
+grants-begin : (c : tie.Else2) → let b = bytes c in eqb (offset b 1) (offset b 0 + partLength b 0) ≡ true
 grants-begin c =
-    let b : List ℕ = c .before .before .before .before .before .before .args .bytes .now in
+    let b : List ℕ = bytes c in
     eq-eqb (offset b 1) (offset b 0 + partLength b 0) (omega arith)
 
 returns-3 : tie.Need-returns-3
 returns-3 c =
     let e = c .before .before .before in
-    let b : List ℕ = e .before .before .before .before .before .before .args .bytes .now in
+    let b : List ℕ = bytes e in
     rw (policy-begins (e .before .before .before), grants-begin e, ne-eqb (offset b 2) (offset b 1 + partLength b 1) (λ x. omega arith))
 
 length-of-requires-3 : tie.Need-length-of-requires-3
@@ -67,9 +74,10 @@ add-result c = omega arith
 
 returns-4 : tie.Need-returns-4
 returns-4 c =
-    let e = c .before .before .before .before in
-    let b : List ℕ = e .before .before .before .before .before .before .args .bytes .now in
-    let same : c .before .before .before .offset-of3 .result + c .length-of3 .result ≡ offset b 2 + partLength b 2 = omega arith in
+    let o = c .before in
+    let e = o .before .before .before in
+    let b : List ℕ = bytes e in
+    let same : o .before .before .offset-of3 .result + c .length-of3 .result ≡ offset b 2 + partLength b 2 = omega arith in
     rw (policy-begins (e .before .before .before), grants-begin e, eq-eqb (offset b 2) (offset b 1 + partLength b 1) (omega arith))
     (ap (λ (n : ℕ). eqb (length b) n) same)
 

@@ -16,7 +16,7 @@ use Rattle.casefile.specs.Private.{HasRoom, Put}
 use Rattle.casefile.proofs.Laying.{Laid, laid}
 use Rattle.casefile.proofs.Decimals.{taken-length}
 use Rattle.casefile.proofs.Writing.{put-behind, room-behind, put-length}
-use Rattle.casefile.proofs.Growing.{lineOf, linesOf, after, after-more, lines-more, lines-bound, line-short}
+use Rattle.casefile.proofs.Lines.{lineOf, linesOf, after, after-more, lines-more, lines-bound, line-short}
 use Rattle.casefile.proofs.Taken.{taken-is-final}
 use Rattle.casefile.proofs.runs.run.Statement.{statement}
 use Rattle.casefile.proofs.runs.run.Tie as tie
@@ -38,18 +38,33 @@ abbrev μ-loop : tie.MeasureT-loop
 layout : (s : tie.Start Inv-loop μ-loop) → Laid (s .args .bytes .now)
 layout s = laid (s .args .bytes .now) (s .pre .case)
 
+-- ── the stages ──
+abbrev begun : tie.After-offset-of Inv-loop μ-loop → tie.Start Inv-loop μ-loop
+begun c = c .before .before .before
+
+-- in the loop: an event is read, then its step is taken
+abbrev head : tie.After-wide-at Inv-loop μ-loop → tie.At-loop Inv-loop μ-loop
+head w = w .before .before
+
+abbrev read : tie.After-step Inv-loop μ-loop → tie.After-wide-at Inv-loop μ-loop
+read s = s .before .before .before
+
+abbrev stepped : tie.After-slice-known2 Inv-loop μ-loop → tie.After-step Inv-loop μ-loop
+stepped c = c .before .before
+
+-- ── up to the loop ──
 offset-of-requires : tie.Need-offset-of-requires Inv-loop μ-loop
 offset-of-requires c κs = let l = layout (c .before .before) in omega arith
 
 length-of-requires : tie.Need-length-of-requires Inv-loop μ-loop
-length-of-requires c κs = let l = layout (c .before .before .before) in omega arith
+length-of-requires c κs = let l = layout (begun c) in omega arith
 
 loop-holds : tie.Need-loop-holds Inv-loop μ-loop
 unfolding run stepLines
 loop-holds c = record {
   within = omega arith;
   size = refl;
-  isFormed = c .before .before .before .before .pre .isFormed;
+  isFormed = begun (c .before) .pre .isFormed;
   same = refl;
   lines = record { place = refl; holds = refl };
 }
@@ -57,7 +72,7 @@ loop-holds c = record {
 -- at the loop's head: the case's events, the lines so far, and the room that they leave
 module _ (m : tie.At-loop Inv-loop μ-loop) where
   abbrev start : tie.Start Inv-loop μ-loop
-  start = m .before .before .before .before .before
+  start = begun (m .before .before)
 
   abbrev bytes : List ℕ
   bytes = start .args .bytes .now
@@ -103,11 +118,11 @@ add-step : tie.Need-add-step Inv-loop μ-loop
 add-step c = let f = few (c .before .before) in omega arith
 
 slice-aggregate-step : tie.Need-slice-aggregate-step Inv-loop μ-loop
-slice-aggregate-step c = sym (c .before .before .before .before .loop .inv .size)
+slice-aggregate-step c = sym (head (c .before .before) .loop .inv .size)
 
 step-requires : tie.Need-step-requires Inv-loop μ-loop
 step-requires c κs =
-    let m = c .before .before .before .before in
+    let m = head (c .before .before) in
     record {
       isFormed = m .loop .inv .isFormed;
       size = m .loop .inv .size;
@@ -115,16 +130,16 @@ step-requires c κs =
     }
 
 add-i : tie.Need-add-i Inv-loop μ-loop
-add-i c = let f = few (c .before .before .before .before .before .before .before .before .before) in omega arith
+add-i c = let f = few (head (read (stepped (c .before .before)))) in omega arith
 
 loop-less : tie.Need-loop-less Inv-loop μ-loop
 loop-less c = omega arith
 
 loop-again : tie.Need-loop-again Inv-loop μ-loop
 loop-again c =
-    let s = c .before .before .before .before in
-    let w = s .before .before .before in
-    let m = w .before .before in
+    let s = stepped (c .before .before) in
+    let w = read s in
+    let m = head w in
     let i = m .loop .i in
     let first = start m .args .monitor in
     let here : m .loop .current ≡ after first (words m) = m .loop .inv .same in

@@ -10,19 +10,30 @@ use Rattle.monitor.specs.Monitors.{wellFormed}
 use Rattle.monitor.specs.Events.{Outcome, outcome, eventCode, eventMonitor}
 use Rattle.monitor.specs.Statuses.{StatusOutcome, statusLetter, statusOf}
 use Rattle.monitor.proofs.Loops.{length-mapped}
+use Rattle.monitor.proofs.Preserved.{left-formed}
 use Rattle.casefile.specs.Texts.{lineText}
-use Rattle.casefile.proofs.Keeping.{left-formed}
-use Rattle.casefile.proofs.Growing.{lineOf, line-short}
+use Rattle.casefile.proofs.Lines.{lineOf, line-short}
 use Rattle.casefile.proofs.runs.step.Statement.{statement}
 use Rattle.casefile.proofs.runs.step.Tie as tie
 
+-- ── the stages ──
+abbrev begun : tie.After-slice-known2 → tie.Start
+begun c = c .before .before
+
+abbrev entered : tie.After-next → tie.After-event
+entered n = n .before .before .before
+
+abbrev known : tie.After-slice-known4 → tie.After-status
+known c = c .before .before
+
+-- ── the calls ──
 event-requires : tie.Need-event-requires
 event-requires c κs = search needs
 
 -- what the event call gave
 module _ (c : tie.After-event) where
   abbrev start : tie.Start
-  start = c .before .before .before .before
+  start = begun (c .before .before)
 
   abbrev before : Monitor
   before = start .args .monitor
@@ -56,14 +67,15 @@ letter-of-requires c κs = search needs
 
 -- the line
 module _ (c : tie.After-letter-of) where
+  abbrev asked : tie.After-status
+  asked = known (c .before .before)
+
   abbrev called : tie.After-event
-  called = c .before .before .before .before .before .before .before .before .before
+  called = entered (asked .before .before)
 
   status : c .letter-of .result ≡ statusLetter (eventMonitor (before called) (word called) 8192) 8192
   unfolding statusOf
-  status =
-      let s = c .before .before .before .before in
-      c .letter-of .ensures ∙ ap (λ (o : StatusOutcome). o .letter) (s .status .ensures) ∙ ap₂ (λ (j : Monitor) (n : ℕ). statusLetter j n) (left called) (room called)
+  status = c .letter-of .ensures ∙ ap (λ (o : StatusOutcome). o .letter) (asked .status .ensures) ∙ ap₂ (λ (j : Monitor) (n : ℕ). statusLetter j n) (left called) (room called)
 
   line : lineText (start called .args .place) (called .event .result .code) (c .letter-of .result) ≡ lineOf (before called) (start called .args .place) (word called)
   line = ap₂ (λ (k l : ℕ). lineText (start called .args .place) k l) (number called) status

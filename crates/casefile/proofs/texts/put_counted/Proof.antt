@@ -12,32 +12,46 @@ use Rattle.casefile.proofs.texts.put_counted.Tie as tie
 abbrev rest : tie.Start → List ℕ
 rest s = decimal (s .args .n) ++ (10 ∷ [])
 
-put-bytes-requires : tie.Need-put-bytes-requires
-put-bytes-requires c κs = let s = c .before .before .before in room-first (s .args .out .now) (s .args .at) (s .args .word .now) (rest s) (s .pre)
+-- the word, then the number
+abbrev start : tie.After-put-bytes-arg → tie.Start
+start c = c .before .before .before
 
-room : (c : tie.After-put-bytes) → HasRoom (c .put-bytes .last .0) (c .put-bytes .result) (rest (c .before .before .before .before))
-room c = let s = c .before .before .before .before in room-behind (c .put-bytes .ensures) (rest s) (s .pre)
+abbrev begun : tie.After-put-bytes → tie.Start
+begun p = start (p .before)
+
+abbrev word : tie.After-put-decimal-arg → tie.After-put-bytes
+word c = c .before .before .before
+
+abbrev number : tie.After-put-arg → tie.After-put-decimal
+number c = c .before .before .before
+
+put-bytes-requires : tie.Need-put-bytes-requires
+put-bytes-requires c κs = let s = start c in room-first (s .args .out .now) (s .args .at) (s .args .word .now) (rest s) (s .pre)
+
+room : (c : tie.After-put-bytes) → HasRoom (c .put-bytes .last .0) (c .put-bytes .result) (rest (begun c))
+room c = let s = begun c in room-behind (c .put-bytes .ensures) (rest s) (s .pre)
 
 put-decimal-requires : tie.Need-put-decimal-requires
 put-decimal-requires c κs =
-    let p = c .before .before .before in
-    room-first (p .put-bytes .last .0) (p .put-bytes .result) (decimal (p .before .before .before .before .args .n)) (10 ∷ []) (room p)
+    let p = word c in
+    room-first (p .put-bytes .last .0) (p .put-bytes .result) (decimal (begun p .args .n)) (10 ∷ []) (room p)
 
 put-requires : tie.Need-put-requires
 put-requires c κs =
-    let q = c .before .before .before in
-    room-behind (q .put-decimal .ensures) (10 ∷ []) (room (q .before .before .before .before))
+    let q = number c in
+    room-behind (q .put-decimal .ensures) (10 ∷ []) (room (word (q .before)))
 
 same-length : tie.Need-same-length
 same-length c = search needs
 
 returns : tie.Need-returns
 returns c =
-    let q = c .before .before .before .before .before .before in
-    let p = q .before .before .before .before in
-    let s = p .before .before .before .before in
+    let u = c .before .before in
+    let q = number (u .before) in
+    let p = word (q .before) in
+    let s = begun p in
     put-behind (p .put-bytes .ensures) (rest s) (s .pre)
-    (put-behind (q .put-decimal .ensures) (10 ∷ []) (room p) (c .before .before .put .ensures))
+    (put-behind (q .put-decimal .ensures) (10 ∷ []) (room p) (u .put .ensures))
 
 pub put-counted-spec : {M : Type 1} → statement M
 put-counted-spec =

@@ -14,8 +14,15 @@ use Rattle.casefile.proofs.texts.put_decimal.Tie as tie
 digit-of-requires : tie.Need-digit-of-requires
 digit-of-requires c κs = search needs
 
+-- one digit, or two
+abbrev one : tie.Then1 → tie.Start
+one c = c .before .before
+
+abbrev two : tie.Then2 → tie.Start
+two c = c .before .before .before
+
 put-requires : tie.Need-put-requires
-put-requires c κs = let s = c .before .before .before .before in
+put-requires c κs = let s = one (c .before .before) in
     rw (one-digit (s .args .n) (omega arith)) at (s .pre)
 
 same-length : tie.Need-same-length
@@ -24,11 +31,11 @@ same-length c = search needs
 returns : tie.Need-returns
 returns c =
     let p = c .before .before in
-    let s = p .before .before .before .before .before in
+    let s = one (p .before .before .before) in
     rw (one-digit (s .args .n) (omega arith), ← (p .before .digit-of .ensures)) (p .put .ensures)
 
 put-two-requires : tie.Need-put-two-requires
-put-two-requires c κs = let s = c .before .before .before .before in
+put-two-requires c κs = let s = two (c .before) in
     rw (two-digits (s .args .n) (omega arith) (omega arith)) at (s .pre)
 
 same-length-2 : tie.Need-same-length-2
@@ -37,7 +44,7 @@ same-length-2 c = search needs
 returns-2 : tie.Need-returns-2
 returns-2 c =
     let p = c .before .before in
-    let s = p .before .before .before .before .before in
+    let s = two (p .before .before) in
     rw (two-digits (s .args .n) (omega arith) (omega arith)) (p .put-two .ensures)
 
 digit-of-requires-2 : tie.Need-digit-of-requires-2
@@ -65,9 +72,12 @@ hundreds : (c : tie.After-put2) → let e = c .before .before .before in let s =
     Put (s .args .out .now) (s .args .at) (first e) (c .put2 .result) (c .put2 .last .0)
 hundreds c = rw (c .before .digit-of2 .ensures) at (c .put2 .ensures)
 
+abbrev first-put : tie.After-put-two-arg2 → tie.After-put2
+first-put c = c .before .before .before
+
 put-two-requires-2 : tie.Need-put-two-requires-2
 put-two-requires-2 c κs =
-    let p = c .before .before .before in
+    let p = first-put c in
     let e = p .before .before .before in
     room-behind (hundreds p) (rest e) (room e)
 
@@ -77,7 +87,7 @@ same-length-3 c = search needs
 returns-3 : tie.Need-returns-3
 returns-3 c =
     let q = c .before .before in
-    let p = q .before .before .before .before in
+    let p = first-put (q .before) in
     let e = p .before .before .before in
     rw (large e) (put-behind (hundreds p) (rest e) (room e) (q .put-two2 .ensures))
 

@@ -29,6 +29,16 @@ module _ (s : tie.Start) where
   whole : HasRoom (s .args .out .now) (s .args .at) (field (s .args .place) ++ rest)
   whole = rw (grouped (s .args .place) (s .args .code) (s .args .status)) at (s .pre)
 
+-- the stages: the place, the number, the status
+abbrev place : tie.After-put-field-arg2 → tie.After-put-field
+place c = c .before .before .before
+
+abbrev number : tie.After-put-arg → tie.After-put-field2
+number c = c .before .before .before
+
+abbrev status : tie.After-put-arg2 → tie.After-put
+status c = c .before .before .before
+
 put-field-requires : tie.Need-put-field-requires
 put-field-requires c κs = let s = c .before .before in room-first (s .args .out .now) (s .args .at) (field (s .args .place)) (rest s) (whole s)
 
@@ -38,41 +48,42 @@ room c = let s = c .before .before .before in room-behind (c .put-field .ensures
 
 put-field-requires-2 : tie.Need-put-field-requires-2
 put-field-requires-2 c κs =
-    let p = c .before .before .before in
+    let p = place c in
     let s = p .before .before .before in
     room-first (p .put-field .last .0) (p .put-field .result) (field (s .args .code)) (ending s) (room p)
 
 -- behind the number
 module _ (c : tie.After-put-field2) where
   abbrev start : tie.Start
-  start = c .before .before .before .before .before .before .before
+  start = place (c .before) .before .before .before
 
   room-2 : HasRoom (c .put-field2 .last .0) (c .put-field2 .result) (ending start)
-  room-2 = room-behind (c .put-field2 .ensures) (ending start) (room (c .before .before .before .before))
+  room-2 = room-behind (c .put-field2 .ensures) (ending start) (room (place (c .before)))
 
 put-requires : tie.Need-put-requires
 put-requires c κs =
-    let q = c .before .before .before in
+    let q = number c in
     room-first (q .put-field2 .last .0) (q .put-field2 .result) (start q .args .status ∷ []) (10 ∷ []) (room-2 q)
 
 put-requires-2 : tie.Need-put-requires-2
 put-requires-2 c κs =
-    let u = c .before .before .before in
-    room-behind (u .put .ensures) (10 ∷ []) (room-2 (u .before .before .before .before))
+    let u = status c in
+    room-behind (u .put .ensures) (10 ∷ []) (room-2 (number (u .before)))
 
 same-length : tie.Need-same-length
 same-length c = search needs
 
 returns : tie.Need-returns
 returns c =
-    let u = c .before .before .before .before .before .before in
-    let q = u .before .before .before .before in
-    let p = q .before .before .before .before in
+    let e = c .before .before in
+    let u = status (e .before) in
+    let q = number (u .before) in
+    let p = place (q .before) in
     let s = start q in
     rw (grouped (s .args .place) (s .args .code) (s .args .status))
     (put-behind (p .put-field .ensures) (rest s) (whole s)
     (put-behind (q .put-field2 .ensures) (ending s) (room p)
-    (put-behind (u .put .ensures) (10 ∷ []) (room-2 q) (c .before .before .put2 .ensures))))
+    (put-behind (u .put .ensures) (10 ∷ []) (room-2 q) (e .put2 .ensures))))
 
 pub put-line-spec : {M : Type 1} → statement M
 put-line-spec =

@@ -23,16 +23,22 @@ put-requires-2 c κs = search needs
 same-length : tie.Need-same-length
 same-length c = search needs
 
--- the tens are put
-tens : (c : tie.After-put) → let s = c .before .before .before .before in
+-- the tens are put, then the ones
+abbrev start : tie.After-digit-of → tie.Start
+start c = c .before .before .before
+
+abbrev first : tie.After-put-arg2 → tie.After-put
+first c = c .before .before .before
+
+tens : (c : tie.After-put) → let s = start (c .before) in
     Put (s .args .out .now) (s .args .at) (digit (s .args .n / 10) ∷ []) (c .put .result) (c .put .last .0)
 tens c = rw (c .before .digit-of .ensures) at (c .put .ensures)
 
 returns : tie.Need-returns
 returns c =
     let q = c .before .before in
-    let p = q .before .before .before .before .before in
-    let s = p .before .before .before .before in
+    let p = first (q .before .before) in
+    let s = start (p .before) in
     let ones : Put (p .put .last .0) (p .put .result) (digit (s .args .n) ∷ []) (q .put2 .result) (q .put2 .last .0) = rw (q .before .digit-of2 .ensures) at (q .put2 .ensures) in
     put-behind (tens p) (digit (s .args .n) ∷ []) (s .pre) ones
 

@@ -1,4 +1,4 @@
--- Runs that grow at their end: one more event adds its line, and at most nine bytes.
+-- The lines of a run: one more event adds its line, and at most nine bytes.
 use mathlib.Core.Path.{_≡_, refl, sym, ap, _∙_}
 use mathlib.Core.List.{List, [], _∷_, _++_, append-nil, append-assoc}
 use Prim.Native.Nat.{ℕ, suc, _+_, _*_, _≤_}
@@ -24,12 +24,12 @@ linesOf m p ws = stepLines p (caseRun m ws)
 abbrev pub after : Monitor → List ℕ → Monitor
 after m ws = final m (caseRun m ws)
 
-pub after-next : (m : Monitor) (ws : List ℕ) (w : ℕ) → after m (ws ++ (w ∷ [])) ≡ eventMonitor (after m ws) w 8192
+after-next : (m : Monitor) (ws : List ℕ) (w : ℕ) → after m (ws ++ (w ∷ [])) ≡ eventMonitor (after m ws) w 8192
 unfolding run
 after-next m [] w = refl
 after-next m (v ∷ ws) w = after-next (eventMonitor m v 8192) ws w
 
-pub lines-next : (m : Monitor) (p : ℕ) (ws : List ℕ) (w : ℕ) → linesOf m p (ws ++ (w ∷ [])) ≡ linesOf m p ws ++ lineOf (after m ws) (p + length ws) w
+lines-next : (m : Monitor) (p : ℕ) (ws : List ℕ) (w : ℕ) → linesOf m p (ws ++ (w ∷ [])) ≡ linesOf m p ws ++ lineOf (after m ws) (p + length ws) w
 unfolding run stepLines
 lines-next m p [] w = let e : p ≡ p + 0 = omega arith in append-nil (lineOf m p w) ∙ ap (λ (n : ℕ). lineOf m n w) e
 lines-next m p (v ∷ ws) w =
@@ -43,7 +43,7 @@ line-short m place w =
     let k = event-below m (eventIn m w) 8192 in
     line-length place (eventCode m w 8192) (statusLetter (eventMonitor m w 8192) 8192) (omega arith)
 
-pub lines-short : (m : Monitor) (p : ℕ) (ws : List ℕ) → length (linesOf m p ws) ≤ 9 * length ws
+lines-short : (m : Monitor) (p : ℕ) (ws : List ℕ) → length (linesOf m p ws) ≤ 9 * length ws
 unfolding run stepLines
 lines-short m p [] = omega arith
 lines-short m p (w ∷ ws) =

@@ -18,8 +18,8 @@ use Rattle.casefile.specs.Cases.{caseOk, openingOf, eventWords}
 use Rattle.casefile.specs.Texts.{refusedText, runText, caseText, limit, printed, output}
 use Rattle.casefile.specs.Private.{Put}
 use Rattle.casefile.proofs.Decimals.{refused-length}
-use Rattle.casefile.proofs.judge.Statement.{statement}
-use Rattle.casefile.proofs.judge.Tie as tie
+use Rattle.casefile.proofs.print_case.Statement.{statement}
+use Rattle.casefile.proofs.print_case.Tie as tie
 
 -- ── the text of a case ──
 module _ (b : List ℕ) where
@@ -54,6 +54,10 @@ unfolding printed output
 returns c = let out : List ℕ = c .before .before .before .args .out .now in
     (rw (lt-ltb (length out) limit (omega arith)), rw (lt-ltb (length out) limit (omega arith)))
 
+-- the output is long enough
+abbrev start : tie.Else1 → tie.Start
+start e = e .before .before .before
+
 case-ok-requires : tie.Need-case-ok-requires
 case-ok-requires c κs = search needs
 
@@ -67,14 +71,14 @@ returns-2 : tie.Need-returns-2
 returns-2 c =
     let p = c .before .before in
     let t = p .before .before in
-    let a = t .before .before .before .before .before .args in
+    let a = start (t .before .before) .args in
     let bad : caseOk (a .bytes .now) ≡ false = sym (t .before .case-ok .ensures) ∙ not-true (t .before .case-ok .result) (t .if2 .taken) in
     answered (a .bytes .now) (a .out .now) (t .before .before .if1 .left) (malformed-text (a .bytes .now) bad) (p .put-refused .ensures)
 
 -- the case is not malformed
 module _ (c : tie.Else2) where
   abbrev bytes : List ℕ
-  bytes = c .before .before .before .before .before .args .bytes .now
+  bytes = start (c .before .before) .args .bytes .now
 
   well : caseOk bytes ≡ true
   well = sym (c .before .case-ok .ensures) ∙ not-false (c .before .case-ok .result) (c .if2 .left)
@@ -87,6 +91,9 @@ module _ (c : tie.After-open-case) where
   abbrev case : List ℕ
   case = bytes (c .before)
 
+  abbrev fitting : tie.Else1
+  fitting = c .before .before .before
+
   code-is : c .open-case .result .code ≡ number case
   code-is = ap (λ (a : Answer). a .code) (c .open-case .ensures)
 
@@ -96,7 +103,7 @@ module _ (c : tie.After-open-case) where
 put-refused-requires-2 : tie.Need-put-refused-requires-2
 put-refused-requires-2 c κs =
     let r = refused-length (c .before .before .open-case .result .code) in
-    omega (arith, r, c .before .before .before .before .before .if1 .left)
+    omega (arith, r, fitting (c .before .before) .if1 .left)
 
 same-length-2 : tie.Need-same-length-2
 same-length-2 c = search needs
@@ -106,9 +113,9 @@ returns-3 c =
     let p = c .before .before in
     let t = p .before .before in
     let o = t .before in
-    let s = o .before .before .before .before .before .before in
+    let s = start (fitting o) in
     let refused : number (case o) ≡ 0 → ⊥ = λ z. t .if3 .taken (code-is o ∙ z) in
-    answered (case o) (s .args .out .now) (o .before .before .before .if1 .left) (refused-text (case o) (well (o .before)) refused ∙ ap refusedText (sym (code-is o))) (p .put-refused2 .ensures)
+    answered (case o) (s .args .out .now) (fitting o .if1 .left) (refused-text (case o) (well (o .before)) refused ∙ ap refusedText (sym (code-is o))) (p .put-refused2 .ensures)
 
 -- the opening is accepted
 module _ (c : tie.Else3) where
@@ -127,7 +134,7 @@ run-requires c κs =
       isFormed = subst (λ (i : Monitor). So (wellFormed i)) (sym (fresh-is e)) (opened-is-well-formed (openingOf b) (accepted e));
       none = ap (λ (i : Monitor). i .instance .taken) (fresh-is e);
       case = well (e .before .before);
-      fits = e .before .before .before .before .if1 .left;
+      fits = fitting (e .before) .if1 .left;
     }
 
 same-length-3 : tie.Need-same-length-3
@@ -138,13 +145,13 @@ returns-4 c =
     let p = c .before .before in
     let e = p .before .before .before in
     let o = e .before in
-    let s = o .before .before .before .before .before .before in
+    let s = start (fitting o) in
     let text : caseText (case o) ≡ runText (o .open-case .result .monitor) (eventWords (case o)) =
     opened-text (case o) (well (o .before)) (accepted e) ∙ ap (λ (i : Monitor). runText i (eventWords (case o))) (sym (left-is o)) in
-    answered (case o) (s .args .out .now) (o .before .before .before .if1 .left) text (p .run .ensures)
+    answered (case o) (s .args .out .now) (fitting o .if1 .left) text (p .run .ensures)
 
-pub judge-spec : {M : Type 1} → statement M
-judge-spec =
+pub print-case-spec : {M : Type 1} → statement M
+print-case-spec =
     tie.close
     (tie.spec
     returns
