@@ -29,7 +29,7 @@ use Rattle.monitor.specs.Instances.{instanceOf, policyOf, takenOf, term,
 use Rattle.monitor.specs.Monitors.{Opening, policy, openRefusals, openCode}
 use Rattle.monitor.specs.MultisetTest.{verdictNumber, verdictLetter, total, listed, notedBy, testRefusals, testCode, testOf, Numbered}
 use Rattle.monitor.specs.Private.{Fillable, adding}
-use Rattle.monitor.proofs.Formed.{Readable, words-few}
+use Rattle.monitor.proofs.Formed.{PolicyOk, words-few}
 use Rattle.monitor.proofs.Fillable.{fillable}
 use Rattle.monitor.proofs.Adding.{adding-number, adding-words, adding-policy, adding-taken, listed-length, listed-below}
 
@@ -80,7 +80,7 @@ module _ (o : Opening) where
       pub of-counted : {A : Type 0} (f : Term → List Action → A) (i : Instance) → i ≡ counted → f (term i) (takenOf i) ≡ f (policy o) (map (notedBy o) (listed 0 counts))
       of-counted f i e = ap (λ (x : Instance). f (term x) (takenOf x)) e ∙ ap₂ f (ap (λ (p : List ℕ). termOf (decode p)) policy-counted) taken-counted
 
-      pub fillable-counted : (before : List ℕ) → Readable (o .users) (o .roles) (o .words) → length counts ≡ 16 → 8192 ≤ length before → Fillable counted before
+      pub fillable-counted : (before : List ℕ) → PolicyOk (o .users) (o .roles) (o .words) → length counts ≡ 16 → 8192 ≤ length before → Fillable counted before
       fillable-counted before r n long =
           let l = map (notedFor over start) (listed 0 counts) in
           fillable counted before (omega (arith, adding-words start l, words-few (o .words) r))

@@ -13,6 +13,7 @@ use Rattle.policy.specs.Refusals.{code, Clear}
 use Rattle.policy.specs.Words.{decode}
 use Rattle.policy.specs.Reading.{countOk, lengthOk, isTerm, isFormed, refusals, unitsOf}
 use Rattle.policy.proofs.Refusals.{clear, clear-front, clear-behind}
+use Rattle.policy.proofs.Scanning.{length-range, counts-most}
 use Rattle.monitor.specs.declared.Configuration.{Configuration}
 use Rattle.monitor.specs.declared.Instance.{Instance}
 use Rattle.monitor.specs.declared.Monitor.{Monitor}
@@ -22,14 +23,14 @@ use Rattle.monitor.specs.Monitors.{Opening, openRefusals, openCode, well
 use Rattle.monitor.proofs.Opening.{policy-refusals, rows-refusal}
 
 -- ── a policy that is read ──
-pub record Readable (users roles : ℕ) (words : List ℕ) : Type 0 where
+pub record PolicyOk (users roles : ℕ) (words : List ℕ) : Type 0 where
   pub counts : So (countOk users && countOk roles)
   pub long : So (lengthOk (length words))
   pub term : So (isTerm (decode words))
   pub formed : So (isFormed (decode words))
 
-pub readable : (users roles : ℕ) (words : List ℕ) → Clear (refusals users roles words) → Readable users roles words
-readable users roles words k = record {
+pub policy-ok : (users roles : ℕ) (words : List ℕ) → Clear (refusals users roles words) → PolicyOk users roles words
+policy-ok users roles words k = record {
   counts = not-false _ (k .0);
   long = not-false _ (k .1 .0);
   term = not-false _ (k .1 .1 .1 .0);
@@ -39,13 +40,8 @@ readable users roles words k = record {
 pub count-most : (n : ℕ) → So (countOk n) → n ≤ 16
 count-most n h = leb-true n 16 (and-split (leb 1 n) (leb n 16) h .1)
 
-pub counts-most : (users roles : ℕ) → So (countOk users && countOk roles) → (users ≤ 16) × (roles ≤ 16)
-counts-most users roles h =
-    let n = and-split (countOk users) (countOk roles) h in
-    (count-most users (n .0), count-most roles (n .1))
-
-pub words-few : {users roles : ℕ} (words : List ℕ) → Readable users roles words → length words ≤ 31
-words-few words r = leb-true (length words) 31 (and-split (leb 1 (length words)) (leb (length words) 31) (r .long) .1)
+pub words-few : {users roles : ℕ} (words : List ℕ) → PolicyOk users roles words → length words ≤ 31
+words-few words r = length-range (length words) (r .long) .1
 
 -- rows that are accepted
 pub one-each : (users roles : ℕ) (rows : List ℕ) → So (rowsOk users roles rows) → length rows ≡ users
@@ -61,8 +57,8 @@ module _ (o : Opening) (e : openCode o ≡ 0) where
   unfolding openRefusals
   opens-clear = clear-front (policy-refusals o) (rows-refusal o) all-clear
 
-  pub opens-read : Readable (o .users) (o .roles) (o .words)
-  opens-read = readable (o .users) (o .roles) (o .words) opens-clear
+  pub opens-read : PolicyOk (o .users) (o .roles) (o .words)
+  opens-read = policy-ok (o .users) (o .roles) (o .words) opens-clear
 
   pub opens-rows : So (rowsOk (o .users) (o .roles) (o .rows))
   unfolding openRefusals
@@ -157,8 +153,8 @@ module _ (c : Configuration) (i : Instance) where
   formed-clear : InstanceFormed c i → Clear (refusals (c .users) (c .roles) (policyOf i))
   formed-clear f = clear (refusals (c .users) (c .roles) (policyOf i)) refl (f .read)
 
-  pub formed-read : InstanceFormed c i → Readable (c .users) (c .roles) (policyOf i)
-  formed-read f = readable (c .users) (c .roles) (policyOf i) (formed-clear f)
+  pub formed-read : InstanceFormed c i → PolicyOk (c .users) (c .roles) (policyOf i)
+  formed-read f = policy-ok (c .users) (c .roles) (policyOf i) (formed-clear f)
 
 -- ── a well-formed monitor ──
 pub record Formed (m : Monitor) : Type 0 where

@@ -26,7 +26,7 @@ use Rattle.workspace.proofs.Digits.{lt-or-le, bit-ones}
 use Rattle.workspace.proofs.Select.{select-none, select-take}
 use Rattle.workspace.proofs.Subterms.{rights-length, ascending}
 use Rattle.workspace.proofs.Complete.{listing-same}
-use Rattle.workspace.proofs.Entries.{length-range, map-range, kept-more}
+use Rattle.workspace.proofs.Entries.{range-length, map-range, kept-more}
 
 -- ── what a shape gives ──
 module _ {p : Shape} (w : Shaped p) where
@@ -95,7 +95,7 @@ module _ (φ : Term) (l : List Action) (cap : 2 ^ length l ≤ 4096) where
 
     sets-length : length sets ≡ 2 ^ length l
     unfolding sets
-    sets-length = length-map (range 0 (2 ^ length l)) (rowOf e φ l) ∙ length-range 0 (2 ^ length l)
+    sets-length = length-map (range 0 (2 ^ length l)) (rowOf e φ l) ∙ range-length 0 (2 ^ length l)
 
     pub column-length : length (column e φ l) ≡ 4096
     unfolding column sets

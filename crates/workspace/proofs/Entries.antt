@@ -29,9 +29,9 @@ use Rattle.workspace.proofs.Select.{select-next}
 use Rattle.workspace.proofs.Exchange.{twin-perm, judged-twin, row-twin}
 
 -- ── a row as a word of the workspace ──
-pub length-range : (i n : ℕ) → length (range i n) ≡ n
-length-range i zero = refl
-length-range i (suc n) = ap suc (length-range (suc i) n)
+pub range-length : (i n : ℕ) → length (range i n) ≡ n
+range-length i zero = refl
+range-length i (suc n) = ap suc (range-length (suc i) n)
 
 pub map-range : {A : Type 0} (f : ℕ → A) (d : A) (i n k : ℕ) → k < n → getD (map f (range i n)) k d ≡ f (i + k)
 map-range f d i zero k h = absurd (omega arith)
@@ -46,7 +46,7 @@ row-number e φ l s row right w short r c h = bit-ext 32 w (number digits) h fit
     digits = map (judged e φ (select s l)) (range 0 (size φ))
 
     long : length digits ≡ size φ
-    long = length-map (range 0 (size φ)) (judged e φ (select s l)) ∙ length-range 0 (size φ)
+    long = length-map (range 0 (size φ)) (judged e φ (select s l)) ∙ range-length 0 (size φ)
 
     fits : number digits < 2 ^ 32
     fits = lt-of-lt-of-le (number-lt digits) (pow-mono {j = 32} (omega (arith, long)))

@@ -9,7 +9,8 @@ use Rattle.policy.specs.declared.PolicyRead.the-variants.{Refused}
 use Rattle.monitor.specs.Monitors.{Opening, given, fresh}
 use Rattle.monitor.proofs.Results.{failed, passed}
 use Rattle.monitor.proofs.Opening.{IsRead, read-refused, read-accepted, code-refused, code-accepted, opening-refused, opening-accepted}
-use Rattle.monitor.proofs.Formed.{Readable, readable, counts-most, words-few, one-each}
+use Rattle.policy.proofs.Scanning.{counts-most}
+use Rattle.monitor.proofs.Formed.{PolicyOk, policy-ok, words-few, one-each}
 use Rattle.monitor.proofs.Monitor.open.Statement.{statement}
 use Rattle.monitor.proofs.Monitor.open.Tie as tie
 
@@ -57,8 +58,8 @@ module _ (c : tie.After-known-told) where
   read-is = read-accepted (opens .users) (opens .roles) (opens .words) (told .read2 .given .0 .0) (told .read2 .given .0 .1 .0)
       (sym (told .before .before .read .ensures) ∙ told .read2 .given .1)
 
-  is-readable : Readable (opens .users) (opens .roles) (opens .words)
-  is-readable = readable (opens .users) (opens .roles) (opens .words) (read-is .clear-read)
+  is-readable : PolicyOk (opens .users) (opens .roles) (opens .words)
+  is-readable = policy-ok (opens .users) (opens .roles) (opens .words) (read-is .clear-read)
 
   few : (opens .users ≤ 16) × (opens .roles ≤ 16)
   few = counts-most (opens .users) (opens .roles) (is-readable .counts)
