@@ -18,7 +18,7 @@ use Rattle.monitor.specs.declared.Event.{Event}
 use Rattle.monitor.specs.declared.Event.the-variants.{Acts, Grants, Revokes, Closes, Malformed}
 use Rattle.monitor.specs.Configurations.{configurationOk}
 use Rattle.monitor.specs.Instances.{policyOf, takenOf, term, notedFor, tried, withAction, instanceOk}
-use Rattle.monitor.specs.Events.{ownRefusals, configured, advanced, workspaceAfter, Outcome}
+use Rattle.monitor.specs.Events.{ownRefusals, advanced, applied, workspaceAfter, Outcome}
 use Rattle.monitor.specs.Statuses.{letterOf}
 
 -- the workspace can be filled for the taken actions
@@ -79,8 +79,7 @@ Acted c i u before r = (a : ℕ) → r ≡ ownOutcome c i (Acts u a) before
 abbrev pub monitorOutcome : Monitor → Event → List ℕ → Outcome
 monitorOutcome m e before = record {
   code = code (ownRefusals (m .configuration) (m .instance) e);
-  monitor = cond (eqb (code (ownRefusals (m .configuration) (m .instance) e)) 0)
-      (record { configuration = configured (m .configuration) e; instance = advanced (m .configuration) (m .instance) e }) m;
+  monitor = cond (eqb (code (ownRefusals (m .configuration) (m .instance) e)) 0) (applied m e) m;
   workspace = workspaceAfter (m .configuration) (m .instance) e (code (ownRefusals (m .configuration) (m .instance) e)) before;
 }
 
