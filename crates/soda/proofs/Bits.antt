@@ -1,14 +1,15 @@
 -- Laws of binary digits: read, set, cleared, and put together.
 use mathlib.Core.Path.{_≡_, refl, sym, ap, ap₂, _∙_}
 use mathlib.Core.Bool.{Bool, true, false, So, not, _&&_, _||_, cond, true≢false}
-use mathlib.Core.List.{List, [], _∷_}
+use mathlib.Core.List.{[], _∷_}
 use Prim.Native.Nat.{ℕ, zero, suc, _+_, _-_, _*_, _/_, _%_, _^_, _≤_, _<_}
 use native.Mathlib.Omega.{arith}
 use native.Mathlib.Nat.{one-mul, pow-suc, zero-div}
 use lib.Dec.{eqb, eqb·zero-suc, eqb·suc-zero, eqb·suc-suc}
-use lib.ListN.{length, getD}
+use lib.ListN.{length}
 use lib.Pow.{shl-exact, shr-shr}
 use Rattle.soda.specs.Bits.{bit, setBit, clearBit, number}
+use Rattle.soda.specs.Laws.{BitSetBit, BitClearBit, BitNumber, NumberLt}
 use Rattle.soda.proofs.Bools.{so-eq}
 
 pub bit-suc : (i n : ℕ) → bit (suc i) n ≡ bit i (n / 2)
@@ -64,7 +65,7 @@ sub-bit (suc i) (suc j) n e =
     bit-suc j (n - 2 ^ suc i) ∙ ap (bit j) m ∙ sub-bit i j (n / 2) (sym (bit-suc i n) ∙ e) ∙ ap₂ (λ a b. not a && b) (sym (eqb·suc-suc j i)) (sym (bit-suc j n))
 
 -- a digit set, or cleared: that digit alone changes
-pub bit-setBit : (i j n : ℕ) → bit j (setBit i n) ≡ (eqb j i || bit j n)
+pub bit-setBit : BitSetBit
 unfolding setBit
 bit-setBit i j n = go (bit i n) refl
   where
@@ -76,7 +77,7 @@ bit-setBit i j n = go (bit i n) refl
     go true e = at (eqb j i) refl e
     go false e = add-bit i j n e
 
-pub bit-clearBit : (i j n : ℕ) → bit j (clearBit i n) ≡ (not (eqb j i) && bit j n)
+pub bit-clearBit : BitClearBit
 unfolding clearBit
 bit-clearBit i j n = go (bit i n) refl
   where
@@ -114,11 +115,11 @@ pub digit-lt : (b : Bool) → cond b 1 0 < 2
 digit-lt true = omega arith
 digit-lt false = omega arith
 
-pub number-lt : (l : List Bool) → number l < 2 ^ length l
+pub number-lt : NumberLt
 number-lt [] = omega arith
 number-lt (b ∷ l) = omega (arith, digit-lt b, number-lt l, pow-suc 2 (length l))
 
-pub bit-number : (l : List Bool) (i : ℕ) → bit i (number l) ≡ getD l i false
+pub bit-number : BitNumber
 bit-number [] i = bit-of-zero i
 bit-number (b ∷ l) zero = bit-zero b (number l)
 bit-number (b ∷ l) (suc i) = bit-suc i (number (b ∷ l)) ∙ ap (bit i) (half-digit b (number l)) ∙ bit-number l i

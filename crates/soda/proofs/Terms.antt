@@ -8,9 +8,10 @@ use lib.ListN.{length, getD, length-append, length-map, List·getD-eq-default, L
 use lib.Seq.{getD-append-add}
 use Rattle.soda.specs.Bits.{bit}
 use Rattle.soda.specs.Terms.{Op, Term, everyone, role, set, ¬ᵗ_, _⁺, bin, size, subterms, termAt, marks}
+use Rattle.soda.specs.Laws.{SizePos, SubtermsLength, FirstTerm, BitMarks, BitMarksPast}
 use Rattle.soda.proofs.Bits.{bit-number}
 
-pub size-pos : (φ : Term) → 0 < size φ
+pub size-pos : SizePos
 size-pos everyone = omega arith
 size-pos (role r) = omega arith
 size-pos (set m) = omega arith
@@ -18,13 +19,21 @@ size-pos (¬ᵗ φ) = omega arith
 size-pos (φ ⁺) = omega arith
 size-pos (bin op φ ψ) = omega arith
 
-pub subterms-length : (φ : Term) → length (subterms φ) ≡ size φ
+pub subterms-length : SubtermsLength
 subterms-length everyone = refl
 subterms-length (role r) = refl
 subterms-length (set m) = refl
 subterms-length (¬ᵗ φ) = omega (arith, subterms-length φ)
 subterms-length (φ ⁺) = omega (arith, subterms-length φ)
 subterms-length (bin op φ ψ) = omega (arith, length-append (subterms φ) (subterms ψ), subterms-length φ, subterms-length ψ)
+
+pub first-term : FirstTerm
+first-term everyone = refl
+first-term (role r) = refl
+first-term (set m) = refl
+first-term (¬ᵗ φ) = refl
+first-term (φ ⁺) = refl
+first-term (bin op φ ψ) = refl
 
 -- ── standing ──
 -- φ stands in the term ρ from word i on
@@ -34,14 +43,6 @@ pub record Stands (ρ : Term) (i : ℕ) (φ : Term) : Type 0 where
 
 pub stands-whole : (ρ : Term) → Stands ρ 0 ρ
 stands-whole ρ = record { inside = omega arith; same = λ k l. let e : 0 + k ≡ k = omega arith in ap (termAt ρ) e }
-
-first-term : (φ : Term) → termAt φ 0 ≡ φ
-first-term everyone = refl
-first-term (role r) = refl
-first-term (set m) = refl
-first-term (¬ᵗ φ) = refl
-first-term (φ ⁺) = refl
-first-term (bin op φ ψ) = refl
 
 pub stands-here : {ρ : Term} {i : ℕ} {φ : Term} → Stands ρ i φ → termAt ρ i ≡ φ
 stands-here {ρ} {i} {φ} s = let e : i ≡ i + 0 = omega arith in ap (termAt ρ) e ∙ s .same 0 (size-pos φ) ∙ first-term φ
@@ -85,13 +86,12 @@ map-at f [] i a b h = absurd (omega arith)
 map-at f (x ∷ l) zero a b h = refl
 map-at f (x ∷ l) (suc i) a b h = map-at f l i a b (omega arith)
 
-module _ (f : Term → Bool) (ρ : Term) where
-  bit-marks : (i : ℕ) → i < size ρ → bit i (marks f ρ) ≡ f (termAt ρ i)
-  bit-marks i h = bit-number (map f (subterms ρ)) i ∙ map-at f (subterms ρ) i everyone false (omega (arith, subterms-length ρ))
+pub bit-marks : BitMarks
+bit-marks f ρ i h = bit-number (map f (subterms ρ)) i ∙ map-at f (subterms ρ) i everyone false (omega (arith, subterms-length ρ))
 
-  pub bit-marks-past : (i : ℕ) → size ρ ≤ i → bit i (marks f ρ) ≡ false
-  bit-marks-past i h = bit-number (map f (subterms ρ)) i
-      ∙ List·getD-eq-default (map f (subterms ρ)) false (omega (arith, length-map (subterms ρ) f, subterms-length ρ))
+pub bit-marks-past : BitMarksPast
+bit-marks-past f ρ i h = bit-number (map f (subterms ρ)) i
+    ∙ List·getD-eq-default (map f (subterms ρ)) false (omega (arith, length-map (subterms ρ) f, subterms-length ρ))
 
 -- the bit of a term that stands at word i
 pub bit-standing : (f : Term → Bool) {ρ : Term} {i : ℕ} {φ : Term} → Stands ρ i φ → bit i (marks f ρ) ≡ f φ

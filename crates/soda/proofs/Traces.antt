@@ -11,6 +11,7 @@ use Rattle.soda.specs.Roles.{UA, roles, grant, revoke, meets}
 use Rattle.soda.specs.Tables.{single, several, disjoint, join, Execution, metBy, judge}
 use Rattle.soda.specs.Multisets.{Multiset, singleton, multiset, _⊎ᵐ_, _∩ᵐ_, ∅ᵐ}
 use Rattle.soda.specs.Traces.{Event, business, addUA, rmUA, admin, upd, Trace, users, execution, executed, Si, si-nil, si-both, si-left, si-right, SatT, t1, t2, t3, t4, t5, t6, t7, t8, t9, t10, t11}
+use Rattle.soda.specs.Laws.{ExecutedAppend}
 use Rattle.soda.proofs.Bools.{never, and-split, and-join, or-split, or-left, or-right}
 use Rattle.soda.proofs.Tables.{several-all, Judgement, together-out, together-in, apart-out, apart-in, who, judge-unit, judge-plus, judge-bin}
 use Rattle.soda.proofs.Multisets.{meets-is-singleton, disjoint-multisets, multisets-disjoint}
@@ -48,7 +49,7 @@ split-si (rmUA u r ∷ t) ua d = let f = split-si t (revoke ua u r) d in
     record { one = rmUA u r ∷ f .one; two = rmUA u r ∷ f .two; si = si-both refl (f .si); is-one = f .is-one; is-two = f .is-two }
 
 -- the actions of two traces in a row
-pub executed-append : (s t : Trace) (ua : UA) → executed ua (s ++ t) ≡ executed ua s ++ executed (upd ua s) t
+pub executed-append : ExecutedAppend
 executed-append [] t ua = refl
 executed-append (business u a ∷ s) t ua = ap (λ x. execution ua u ∷ x) (executed-append s t ua)
 executed-append (addUA u r ∷ s) t ua = executed-append s t (grant ua u r)

@@ -1,6 +1,6 @@
 -- Steps on words are steps on terms.
 use mathlib.Core.Path.{_≡_, refl, sym, _∙_, ap, subst}
-use mathlib.Core.Logic.{_↔_, _⊎_, inl, inr}
+use mathlib.Core.Logic.{_⊎_, inl, inr}
 use mathlib.Core.Bool.{So}
 use mathlib.Core.List.{List, [], _∷_, _++_, tail, append-assoc, append-nil}
 use Prim.Native.Nat.{ℕ, _<_}
@@ -9,6 +9,7 @@ use lib.ListN.{length, getD, length-append}
 use Rattle.soda.specs.Terms.{Term, everyone, role, set, ¬ᵗ_, _⁺, bin, size}
 use Rattle.soda.specs.Words.{word, opWord, encode, fits}
 use Rattle.soda.specs.Steps.{Turn, Step, here, in-not, in-plus, in-left, in-right, Steps, WordStep, WordSteps}
+use Rattle.soda.specs.EqualForms.{WordsRelated}
 use Rattle.soda.proofs.Bools.{and-split}
 use Rattle.soda.proofs.Terms.{size-pos}
 use Rattle.soda.proofs.Words.{encode-length, words-are-one-term, encode-inj}
@@ -104,7 +105,7 @@ words-of-steps f Steps.none = WordSteps.none refl
 words-of-steps f (Steps.step s p) = WordSteps.step (words-of-step f s) (words-of-steps (sym (steps-fits (Steps.step s Steps.none)) ∙ f) p)
 
 -- related words of two terms are related terms
-pub words-related : (φ ψ : Term) → So (fits φ) → So (fits ψ) → WordSteps (encode φ) (encode ψ) ↔ Steps φ ψ
+pub words-related : WordsRelated
 words-related φ ψ f g = (there, words-of-steps f)
   where
     there : WordSteps (encode φ) (encode ψ) → Steps φ ψ

@@ -8,8 +8,9 @@ use native.Mathlib.Nat.{pow-le-pow-right}
 use native.Mathlib.Omega.{arith}
 use lib.Dec.{ltb, eqb, lit<}
 use lib.ListN.{length, getD, length-map}
-use Rattle.soda.specs.Terms.{Op, either, both, together, apart, Term, everyone, role, set, ¬ᵗ_, _⁺, bin, sameOp, size, subterms}
+use Rattle.soda.specs.Terms.{Op, either, both, together, apart, Term, everyone, role, set, ¬ᵗ_, _⁺, bin, subterms}
 use Rattle.soda.specs.Words.{word, opKind, encode, fits, declared, wordsLe, termLe}
+use Rattle.soda.specs.Laws.{EncodeLength, OpHigh, SameKind, WordsTrans, CompareInPlace}
 use Rattle.soda.specs.EqualForms.{WordsAreOneTerm, DeclaredFits}
 use Rattle.soda.proofs.Terms.{subterms-length}
 use Rattle.soda.proofs.Bools.{never, not-so, and-split, and-join, or-split, or-left, or-right, lt-so, so-lt, eq-so, so-eq, less, same, more, order}
@@ -37,7 +38,7 @@ words-total (a ∷ u) (b ∷ v) e = elim (order a b) [
   | more h ↦ le-below b a v u h
 ]
 
-pub words-trans : (u v w : List ℕ) → So (wordsLe u v) → So (wordsLe v w) → So (wordsLe u w)
+pub words-trans : WordsTrans
 words-trans [] v w p q = refl
 words-trans (a ∷ u) [] w p q = never p
 words-trans (a ∷ u) (b ∷ v) [] p q = never q
@@ -62,13 +63,13 @@ words-antisym (a ∷ u) (b ∷ v) p q = elim (le-cons a b u v p) [
 ]
 
 -- ── the operators' kinds ──
-pub op-high : (op : Op) → 5 < opKind op
+pub op-high : OpHigh
 op-high either = omega arith
 op-high both = omega arith
 op-high together = omega arith
 op-high apart = omega arith
 
-pub same-kind : (op o : Op) → eqb (opKind o) (opKind op) ≡ sameOp op o
+pub same-kind : SameKind
 same-kind either = elim [ either ↦ refl | both ↦ refl | together ↦ refl | apart ↦ refl ]
 same-kind both = elim [ either ↦ refl | both ↦ refl | together ↦ refl | apart ↦ refl ]
 same-kind together = elim [ either ↦ refl | both ↦ refl | together ↦ refl | apart ↦ refl ]
@@ -104,7 +105,7 @@ encode-codes (φ ⁺) = λ i. word 5 0 ∷ encode-codes φ i
 encode-codes (bin op φ ψ) =
     ap {B = List ℕ} (λ r. word (opKind op) 0 ∷ r) ((λ i. encode-codes φ i ++ encode-codes ψ i) ∙ sym (map-append code (subterms φ) (subterms ψ)))
 
-pub encode-length : (φ : Term) → length (encode φ) ≡ size φ
+pub encode-length : EncodeLength
 encode-length φ = ap (λ (l : List ℕ). length l) (encode-codes φ) ∙ length-map (subterms φ) code ∙ subterms-length φ
 
 -- ── reading ──
@@ -232,7 +233,7 @@ words-in-place (a ∷ u) (b ∷ v) p q h = elim (order a b) [
 ]
 
 -- two different terms compare as their words do where more words follow
-pub compare-in-place : (φ ψ : Term) (p q : List ℕ) → So (fits φ) → So (fits ψ) → (φ ≡ ψ → ⊥) → wordsLe (encode φ ++ p) (encode ψ ++ q) ≡ termLe φ ψ
+pub compare-in-place : CompareInPlace
 compare-in-place φ ψ p q f g d = words-in-place (encode φ) (encode ψ) p q (λ m e. d (no-prefix φ ψ m f g e), λ m e. d (sym (no-prefix ψ φ m g f e)))
 
 -- ── declared terms ──

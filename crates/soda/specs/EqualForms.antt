@@ -21,6 +21,10 @@ SameWordsIsWordSteps =
     (φ ψ : Term) → So (fits φ) → So (fits ψ)
     → (encode (normalForm φ) ≡ encode (normalForm ψ)) ↔ WordSteps (encode φ) (encode ψ)
 
+-- Words of two terms are related exactly when the terms are.
+abbrev pub WordsRelated : Type 0
+WordsRelated = (φ ψ : Term) → So (fits φ) → So (fits ψ) → WordSteps (encode φ) (encode ψ) ↔ Steps φ ψ
+
 -- What the normal form keeps: unit, well formed, declared, in the layout, the size and how often each word occurs.
 pub record Keeps (φ : Term) : Type 0 where
   pub same-unit : unit (normalForm φ) ≡ unit φ

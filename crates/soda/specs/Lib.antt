@@ -14,5 +14,6 @@ pub mod Processes
 pub mod Steps
 pub mod Normal
 -- What is proved of them.
+pub mod Laws
 pub mod Accuracy
 pub mod EqualForms
