@@ -1,24 +1,22 @@
 -- In a filled workspace the mask of all n actions is 2^n - 1, and bit 0 of its two words says whether they satisfy the policy and
 -- whether they are possible.
-use mathlib.Core.Path.{_≡_, refl, ap, _∙_}
+use mathlib.Core.Path.{_≡_, refl, ap, ap₂, _∙_}
 use mathlib.Core.Bool.{Bool, true, false}
-use mathlib.Core.List.{List, [], _∷_, map}
-use Prim.Native.Nat.{ℕ, suc, _+_, _-_, _/_, _%_, _^_, _≤_, _<_}
+use mathlib.Core.List.{List, [], _∷_}
+use Prim.Native.Nat.{ℕ, suc, _+_, _-_, _/_, _%_, _^_, _≤_}
 use native.Mathlib.Nat.{pow-suc}
 use native.Mathlib.Omega.{arith}
 use lib.Bits.{bitAnd, and-mask}
 use lib.Dec.{eqb}
 use lib.ListN.{length, getD}
-use lib.Pow.{pow-pos, pow-mono}
+use lib.Pow.{pow-pos}
 use Rattle.soda.specs.Bits.{bit}
-use Rattle.soda.specs.Terms.{Term, size}
+use Rattle.soda.specs.Terms.{Term}
 use Rattle.soda.specs.Tables.{bitTable, satisfied, possible}
-use Rattle.soda.proofs.Bits.{bit-number}
-use Rattle.soda.proofs.Terms.{size-pos, stands-whole, stands-here}
+use Rattle.soda.proofs.Terms.{size-pos, first-term}
 use Rattle.soda.specs.declared.Action.{Action}
-use Rattle.workspace.specs.Workspace.{range, select, judged, rowOf, column, filled}
-use Rattle.workspace.proofs.Entries.{map-range}
-use Rattle.workspace.proofs.Columns.{column-at, filled-low, filled-high}
+use Rattle.workspace.specs.Workspace.{select, judged, rowOf, filled}
+use Rattle.workspace.proofs.Columns.{word-is-row, bit-is-judged}
 
 -- all actions
 all-ones : (n : ℕ) → bit 0 (2 ^ suc n - 1) ≡ true
@@ -35,18 +33,12 @@ select-all (a ∷ l) = rw (all-ones (length l), half-ones (length l), select-all
 abbrev verdictOf : Bool → Term → List Action → Bool
 verdictOf e φ l = bitTable (λ a. a .user) (λ a. a .met) e φ 0 l
 
-module _ (e : Bool) (φ : Term) (l : List Action) where
-  -- bit 0 is the whole policy
-  row-whole : (s : ℕ) → bit 0 (rowOf e φ l s) ≡ verdictOf e φ (select s l)
-  unfolding rowOf judged
-  row-whole s =
-      bit-number (map (judged e φ (select s l)) (range 0 (size φ))) 0
-      ∙ map-range (judged e φ (select s l)) false 0 (size φ) 0 (size-pos φ)
-      ∙ ap (λ ψ. verdictOf e ψ (select s l)) (stands-here (stands-whole φ))
-
-  column-last : 2 ^ length l ≤ 4096 → bit 0 (getD (column e φ l) (2 ^ length l - 1) 0) ≡ verdictOf e φ l
-  column-last cap =
-      ap (bit 0) (column-at φ l cap e (2 ^ length l - 1) (omega (arith, pow-pos (length l)))) ∙ row-whole (2 ^ length l - 1) ∙ ap (verdictOf e φ) (select-all l)
+-- the row of all actions: bit 0 is the whole policy
+row-whole : (e : Bool) (φ : Term) (l : List Action) → bit 0 (rowOf e φ l (2 ^ length l - 1)) ≡ verdictOf e φ l
+unfolding judged
+row-whole e φ l =
+    let s = 2 ^ length l - 1 in
+    bit-is-judged e φ l s 0 (size-pos φ) ∙ ap₂ (λ ψ k. verdictOf e ψ k) (first-term φ) (select-all l)
 
 -- bit 0 as the code tests it
 low-bit : (n : ℕ) → eqb (bitAnd n 1) 1 ≡ bit 0 n
@@ -54,16 +46,14 @@ low-bit n = let e : n % 2 ≡ n / 1 % 2 = omega arith in ap (λ (k : ℕ). eqb k
 
 -- what the code reads at the mask of all actions
 module _ (φ : Term) (l : List Action) (few : length l ≤ 12) (before after : List ℕ) (is : after ≡ filled φ l before) (mask : ℕ) (ones : mask ≡ 2 ^ length l - 1) where
-  cap : 2 ^ length l ≤ 4096
-  cap = pow-mono {j = 12} few
-
-  last-low : 2 ^ length l - 1 < 4096
-  last-low = omega (arith, cap, pow-pos (length l))
+  words : (getD (filled φ l before) (2 ^ length l - 1) 0 ≡ rowOf false φ l (2 ^ length l - 1))
+      × (getD (filled φ l before) (4096 + (2 ^ length l - 1)) 0 ≡ rowOf true φ l (2 ^ length l - 1))
+  words = word-is-row φ l before (2 ^ length l - 1) few (omega (arith, pow-pos (length l)))
 
   pub satisfied-read : eqb (bitAnd (getD after mask 0) 1) 1 ≡ satisfied φ 0 l
   satisfied-read =
-      low-bit (getD after mask 0) ∙ rw (is, ones) (ap (bit 0) (filled-low φ l cap before (2 ^ length l - 1) last-low) ∙ column-last false φ l cap)
+      low-bit (getD after mask 0) ∙ rw (is, ones) (ap (bit 0) (words .0) ∙ row-whole false φ l)
 
   pub possible-read : eqb (bitAnd (getD after (4096 + mask) 0) 1) 1 ≡ possible φ 0 l
   possible-read =
-      low-bit (getD after (4096 + mask) 0) ∙ rw (is, ones) (ap (bit 0) (filled-high φ l cap before (2 ^ length l - 1) last-low) ∙ column-last true φ l cap)
+      low-bit (getD after (4096 + mask) 0) ∙ rw (is, ones) (ap (bit 0) (words .1) ∙ row-whole true φ l)

@@ -15,10 +15,10 @@ use Rattle.soda.specs.Lists.{all}
 use Rattle.soda.specs.Terms.{Term, size}
 use Rattle.soda.specs.Tables.{acts}
 use Rattle.soda.proofs.Bools.{and-split, so-lt}
-use Rattle.soda.proofs.Bits.{bit-of-zero}
+use Rattle.soda.proofs.Bits.{bit-of-zero, bit-number}
 use Rattle.policy.specs.Shapes.{rightSides}
 use Rattle.policy.specs.declared.Shape.{Shape}
-use Rattle.workspace.specs.Workspace.{range, select, judged, rowOf, column, tableOf, filled}
+use Rattle.workspace.specs.Workspace.{range, select, judged, rowOf, column, tableOf, filled, WordIsRow, BitIsJudged}
 use Rattle.workspace.specs.Private.{Masked, Ascending, Listing, Operators, Coded, Suited, Tables, Known, Cleared, Entered, AddedAll, RowsStand, Shaped}
 use Rattle.soda.specs.declared.Action.{Action}
 use Rattle.workspace.specs.declared.masks.Masks.{Masks}
@@ -101,7 +101,7 @@ module _ (φ : Term) (l : List Action) (cap : 2 ^ length l ≤ 4096) where
     unfolding column sets
     column-length = omega (arith, length-append sets (replicate (4096 - 2 ^ length l) 0), sets-length, length-replicate {A = ℕ} (4096 - 2 ^ length l) 0)
 
-    pub column-at : (k : ℕ) → k < 2 ^ length l → getD (column e φ l) k 0 ≡ rowOf e φ l k
+    column-at : (k : ℕ) → k < 2 ^ length l → getD (column e φ l) k 0 ≡ rowOf e φ l k
     unfolding column sets
     column-at k h =
         let z : 0 + k ≡ k = omega arith in
@@ -115,13 +115,13 @@ module _ (φ : Term) (l : List Action) (cap : 2 ^ length l ≤ 4096) where
         ∙ getD-replicate (4096 - 2 ^ length l) (k - 2 ^ length l) 0 0 (omega arith)
 
   module _ (room : List ℕ) where
-    pub filled-low : (k : ℕ) → k < 4096 → getD (filled φ l room) k 0 ≡ getD (column false φ l) k 0
+    filled-low : (k : ℕ) → k < 4096 → getD (filled φ l room) k 0 ≡ getD (column false φ l) k 0
     unfolding filled tableOf
     filled-low k h =
         List·getD-append (column false φ l ++ column true φ l) (drop 8192 room) 0 k (omega (arith, length-append (column false φ l) (column true φ l), column-length false))
         ∙ List·getD-append (column false φ l) (column true φ l) 0 k (omega (arith, column-length false))
 
-    pub filled-high : (k : ℕ) → k < 4096 → getD (filled φ l room) (4096 + k) 0 ≡ getD (column true φ l) k 0
+    filled-high : (k : ℕ) → k < 4096 → getD (filled φ l room) (4096 + k) 0 ≡ getD (column true φ l) k 0
     unfolding filled tableOf
     filled-high k h =
         let z : 4096 + k ≡ length (column false φ l) + k = omega (arith, column-length false) in
@@ -141,6 +141,18 @@ module _ (φ : Term) (l : List Action) (cap : 2 ^ length l ≤ 4096) where
     filled-length : 8192 ≤ length room → length (filled φ l room) ≡ length room
     unfolding filled
     filled-length h = omega (arith, length-append (tableOf φ l) (drop 8192 room), table-length, length-drop 8192 room)
+
+pub word-is-row : WordIsRow
+word-is-row φ l room s few h =
+    let cap : 2 ^ length l ≤ 4096 = pow-mono {j = 12} few in
+    let low : s < 4096 = omega arith in
+    (filled-low φ l cap room s low ∙ column-at φ l cap false s h, filled-high φ l cap room s low ∙ column-at φ l cap true s h)
+
+pub bit-is-judged : BitIsJudged
+unfolding rowOf
+bit-is-judged e φ l s i h =
+    let z : 0 + i ≡ i = omega arith in
+    bit-number (map (judged e φ (select s l)) (range 0 (size φ))) i ∙ map-range (judged e φ (select s l)) false 0 (size φ) i h ∙ ap (judged e φ (select s l)) z
 
 -- what the sets below 2^n have, zeros behind them, and the rest of the workspace
 pub record Whole (φ : Term) (l : List Action) (n : ℕ) (room after : List ℕ) : Type 0 where

@@ -1,10 +1,11 @@
 -- The workspace (document 01: work room): for each set of actions, which terms of the policy it satisfies and which are possible.
+use mathlib.Core.Path.{_≡_}
 use mathlib.Core.Bool.{Bool, true, false, _&&_, cond}
 use mathlib.Core.List.{List, [], _∷_, _++_, map}
 use mathlib.Core.Option.{Option, some, none}
-use Prim.Native.Nat.{ℕ, zero, suc, _-_, _/_, _^_}
+use Prim.Native.Nat.{ℕ, zero, suc, _+_, _-_, _/_, _^_, _≤_, _<_}
 use lib.Dec.{leb, ltb}
-use lib.ListN.{length, take, drop, replicate}
+use lib.ListN.{length, getD, take, drop, replicate}
 use Rattle.soda.specs.Bits.{bit, number}
 use Rattle.soda.specs.Lists.{all}
 use Rattle.soda.specs.Terms.{Term, wellFormed, size, termAt}
@@ -52,3 +53,14 @@ isFillable (some φ) l workspace = wellFormed φ && (all (λ a. ltb (a .user) 16
 unfoldable pub fillOf : List ℕ → List Action → ℕ → List ℕ → List ℕ
 fillOf words actions n workspace =
     cond (lengthOk (length words) && (leb n 12 && isFillable (decode words) (take n actions) workspace)) (filled (termOf (decode words)) (take n actions) workspace) workspace
+
+-- ── what is proved of it ──
+-- Of at most twelve actions, word s of a filled workspace is the row of the set with mask s, and word 4,096 + s its row for possible ..
+abbrev pub WordIsRow : Type 0
+WordIsRow =
+    (φ : Term) (l : List Action) (workspace : List ℕ) (s : ℕ) → length l ≤ 12 → s < 2 ^ length l
+    → (getD (filled φ l workspace) s 0 ≡ rowOf false φ l s) × (getD (filled φ l workspace) (4096 + s) 0 ≡ rowOf true φ l s)
+
+-- .. and bit i of a row says what is judged of the term at word i.
+abbrev pub BitIsJudged : Type 0
+BitIsJudged = (e : Bool) (φ : Term) (l : List Action) (s i : ℕ) → i < size φ → bit i (rowOf e φ l s) ≡ judged e φ (select s l) i
