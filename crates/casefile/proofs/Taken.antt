@@ -13,7 +13,7 @@ use Rattle.monitor.specs.declared.Event.the-variants.{Acts, Grants, Revokes, Cl
 use Rattle.monitor.specs.Monitors.{openCode, fresh, opened}
 use Rattle.monitor.specs.Events.{eventIn, applied, eventCode, eventMonitor}
 use Rattle.monitor.specs.Runs.{Lengths, from, run, final, isAction, taken}
-use Rattle.monitor.proofs.Opening.{opened-fresh}
+use Rattle.monitor.proofs.Opening.{opened-is-fresh}
 use Rattle.casefile.specs.Cases.{caseOk, openingOf, eventWords}
 use Rattle.casefile.specs.Texts.{limit, runText, caseText, output}
 use Rattle.casefile.specs.Taken.{TakenIsFinal, finalText, PrintedIsFinal}
@@ -46,7 +46,7 @@ taken-is-final m ws n none = let e = all-taken m ws n in omega arith
 text-is-final : (b : List ℕ) → So (caseOk b) → openCode (openingOf b) ≡ 0 → caseText b ≡ finalText b
 unfolding fresh caseText runText
 text-is-final b ok opens =
-    let none : opened (openingOf b) .instance .taken ≡ 0 = ap (λ (m : Monitor). m .instance .taken) (opened-fresh (openingOf b) opens) in
+    let none : opened (openingOf b) .instance .taken ≡ 0 = ap (λ (m : Monitor). m .instance .taken) (opened-is-fresh (openingOf b) opens) in
     rw (ok, opens, taken-is-final (opened (openingOf b)) (eventWords b) (λ k. 8192) none)
 
 pub printed-is-final : PrintedIsFinal

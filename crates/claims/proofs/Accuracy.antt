@@ -21,7 +21,8 @@ use Rattle.monitor.specs.Monitors.{Opening, policy, opened}
 use Rattle.monitor.specs.Events.{isMalformed, eventCode}
 use Rattle.monitor.specs.Statuses.{letterD, letterC, letterO}
 use Rattle.monitor.specs.Runs.{isAction}
-use Rattle.monitor.proofs.Reading.{Declared, declared}
+use Rattle.monitor.specs.Laws.{Declared}
+use Rattle.monitor.proofs.Reading.{declared}
 use Rattle.claims.specs.Runs.{symbolOf}
 use Rattle.claims.specs.Accuracy.{Run, left, history, next, traceOf, hasClosed, businessEvents, hasRoom, Satisfies, Enforced, EventIsProcess, EightIsFull, CloseIsTrace, CloseIsMultiset, StatusIsTrace}
 use Rattle.claims.proofs.Follows.{noted-append, below-append, unfinished-append, ended, formed-policy, Follows, follows-opened, follows-run, taken-most, same-number}

@@ -17,8 +17,9 @@ use Rattle.monitor.specs.Instances.{isClosed}
 use Rattle.monitor.specs.Monitors.{Opening, policy, openCode, admission}
 use Rattle.monitor.specs.Events.{readEvent, eventIn, isMalformed, ownRefusals, eventRefusals, eventCode}
 use Rattle.monitor.specs.Statuses.{letterD, letterC, letterO, statusCode, statusLetter}
-use Rattle.monitor.proofs.Reading.{Declared, declared}
-use Rattle.monitor.proofs.Order.{is-admitted}
+use Rattle.monitor.specs.Laws.{Declared}
+use Rattle.monitor.proofs.Reading.{declared}
+use Rattle.monitor.proofs.Order.{well-formed-is-admitted}
 use Rattle.claims.specs.Accuracy.{traceOf, hasClosed, businessEvents}
 use Rattle.claims.proofs.Follows.{Follows, satisfied-taken, possible-tried, same-number}
 
@@ -64,7 +65,7 @@ module _ (o : Opening) (z : openCode o ≡ 0) (m : Monitor) (l : List Symbol) (f
       ∙ ap (answerTo o l) (same-event w)
 
   pub status-given : (n : ℕ) → 8192 ≤ n → statusCode m n ≡ ACCEPTED
-  status-given n long = is-admitted m n long (f .is-well)
+  status-given n long = well-formed-is-admitted m n long (f .is-well)
 
   pub letter-given : (n : ℕ) → 8192 ≤ n → statusLetter m n ≡ letterAfter o l
   letter-given n long = rw (status-given n long) (ap₂ (λ b s. cond b letterD (cond s letterC letterO)) (f .same-mark) (satisfied-taken o z m l f))

@@ -3,28 +3,32 @@
 use mathlib.Core.Path.{_≡_, refl, sym, _∙_, ap, ap₂, subst}
 use mathlib.Core.Bool.{Bool, true, false, So, _||_, cond}
 use mathlib.Core.List.{List, [], _∷_, _++_, map, map-append, append-nil, append-assoc}
-use mathlib.Core.Option.{Option, some, none}
+use mathlib.Core.Option.{some}
 use Prim.Native.Nat.{ℕ, _-_, _≤_, _<_}
 use native.Mathlib.Omega.{arith}
-use lib.Dec.{ltb, eqb}
+use lib.Dec.{leb, ltb, eqb}
 use lib.ListN.{length, take, set as put, replicate, length-set, length-map, length-replicate}
 use lib.Seq.{take-append-seam, take-set-lt, getD-take, length-take-le}
-use borrow.Author.Tests.{leb-false, not-false, eqb-true}
+use borrow.Author.Tests.{le-leb, leb-false, not-false, eqb-true}
 use Rattle.soda.specs.Bits.{bit, setBit, clearBit}
 use Rattle.soda.specs.Lists.{padded}
-use Rattle.soda.specs.Terms.{Term, wellFormed as wellFormedTerm}
+use Rattle.soda.specs.Terms.{Term, size, wellFormed as wellFormedTerm}
 use Rattle.soda.specs.Roles.{UA, roles, grant, revoke}
 use Rattle.soda.specs.declared.Action.{Action}
 use Rattle.soda.specs.Tables.{satisfied, possible, note}
 use Rattle.soda.specs.Traces.{business, addUA, rmUA, Trace, upd, after, actedBelow, execution, executed, noted}
 use Rattle.soda.specs.Processes.{Symbol, event, done, unfinished, finished}
-use Rattle.soda.proofs.Bools.{never, by-test, and-split, and-join, lt-so}
+use Rattle.soda.proofs.Bools.{by-test, and-split, and-join, lt-so}
+use Rattle.soda.proofs.Terms.{size-pos}
+use Rattle.soda.proofs.Words.{encode-length}
 use Rattle.soda.proofs.Tables.{empty-set}
 use Rattle.soda.proofs.Traces.{executed-append}
 use Rattle.policy.specs.Refusals.{code}
 use Rattle.policy.specs.Words.{decode, termOf}
-use Rattle.policy.specs.Reading.{isTerm, isFormed, metIn, metOf}
+use Rattle.policy.specs.Reading.{lengthOk, metIn, metOf}
+use Rattle.policy.specs.Accepted.{IsPolicy}
 use Rattle.policy.proofs.Refusals.{clear}
+use Rattle.policy.proofs.Accepted.{decode-is-term}
 use Rattle.monitor.specs.declared.Configuration.{Configuration}
 use Rattle.monitor.specs.declared.Instance.{Instance}
 use Rattle.monitor.specs.declared.Monitor.{Monitor}
@@ -34,12 +38,12 @@ use Rattle.monitor.specs.Configurations.{assignment, held}
 use Rattle.monitor.specs.Instances.{policyOf, takenOf, term, isClosed, noted as notedAs, notedFor, tried}
 use Rattle.monitor.specs.Monitors.{Opening, policy, openCode, fresh, opened, wellFormed}
 use Rattle.monitor.specs.Events.{eventIn, ownRefusals, configured, advanced, applied, eventCode, eventMonitor, outcome}
-use Rattle.monitor.specs.Private.{Entered}
+use Rattle.monitor.specs.Laws.{Declared, Passed}
 use Rattle.monitor.specs.Runs.{Lengths, from, stepOf, run, final}
-use Rattle.monitor.proofs.Opening.{opened-fresh}
-use Rattle.monitor.proofs.Formed.{formed, one-each, opens-read, opens-rows}
-use Rattle.monitor.proofs.Reading.{declared, entered}
-use Rattle.monitor.proofs.Order.{Passed, passed}
+use Rattle.monitor.proofs.Opening.{opened-is-fresh}
+use Rattle.monitor.proofs.Formed.{one-each, opened-rows-ok, opened-is-policy, twelve-at-most}
+use Rattle.monitor.proofs.Reading.{declared}
+use Rattle.monitor.proofs.Order.{accepted-has-passed}
 use Rattle.monitor.proofs.Fillable.{taken-more}
 use Rattle.monitor.proofs.Preserved.{opened-is-well-formed, accepted-stays-well-formed}
 use Rattle.claims.specs.Runs.{symbolOf, kept, accepted}
@@ -86,20 +90,25 @@ unfinished-append s t = map-append event s t
 
 -- ── the policy of an opening ──
 module _ (o : Opening) (z : openCode o ≡ 0) where
+  is-policy : IsPolicy (o .users) (o .roles) (o .words) (policy o)
+  is-policy = opened-is-policy o z
+
   decoded : decode (o .words) ≡ some (policy o)
-  decoded = go (decode (o .words)) (opens-read o z .term)
-    where
-      go : (x : Option Term) → So (isTerm x) → x ≡ some (termOf x)
-      go none h = never h
-      go (some φ) h = refl
+  decoded = decode-is-term (o .users) (o .roles) (o .words) (policy o) is-policy
 
   pub formed-policy : So (wellFormedTerm (policy o))
-  formed-policy = subst (λ x. So (isFormed x)) decoded (opens-read o z .formed)
+  formed-policy = is-policy .formed
+
+  long : So (lengthOk (length (o .words)))
+  long =
+      let n = length (o .words) in
+      let size-is : n ≡ size (policy o) = ap length (is-policy .written) ∙ encode-length (policy o) in
+      and-join (leb 1 n) (leb n 31) (le-leb 1 n (omega (arith, size-is, size-pos (policy o)))) (le-leb n 31 (omega (arith, size-is, is-policy .short)))
 
   -- what is noted of a user with these roles is what the algebra notes
   pub noted-is-note : (u h : ℕ) → notedAs (o .words) u h ≡ note (policy o) (record { user = u; held = h })
   unfolding metOf
-  noted-is-note u h = rw (opens-read o z .long) (ap (λ x. record { user = u; met = metIn x u h }) decoded)
+  noted-is-note u h = rw long (ap (λ x. record { user = u; met = metIn x u h }) decoded)
 
 -- ── keeping step ──
 -- l are the accepted events
@@ -125,7 +134,7 @@ module _ (o : Opening) (z : openCode o ≡ 0) where
     same-users = refl;
     same-roles = refl;
     same-words = take-append-seam (o .words) (replicate (31 - length (o .words)) 0);
-    same-rows = ap (λ n. take n (padded 16 (o .rows))) (sym (one-each (o .users) (o .roles) (o .rows) (opens-rows o z)))
+    same-rows = ap (λ n. take n (padded 16 (o .rows))) (sym (one-each (o .users) (o .roles) (o .rows) (opened-rows-ok o z)))
         ∙ take-append-seam (o .rows) (replicate (16 - length (o .rows)) 0);
     same-taken = refl;
     same-mark = refl;
@@ -135,7 +144,7 @@ module _ (o : Opening) (z : openCode o ≡ 0) where
   }
 
   pub follows-opened : Follows o (opened o) []
-  follows-opened = subst (λ m. Follows o m []) (sym (opened-fresh o z)) follows-fresh
+  follows-opened = subst (λ m. Follows o m []) (sym (opened-is-fresh o z)) follows-fresh
 
   module _ (m : Monitor) (l : List Symbol) (f : Follows o m l) where
     abbrev c : Configuration
@@ -172,7 +181,7 @@ module _ (o : Opening) (z : openCode o ≡ 0) where
     possible-tried u a h = ap₂ (λ φ s. possible φ 0 s) same-term (tried-next u a h)
 
     pub taken-most : i .taken ≤ 12
-    taken-most = formed m (f .is-well) .in-instance .taken-most
+    taken-most = twelve-at-most m (f .is-well)
 
     pub same-number : businessEvents l ≡ i .taken
     same-number =
@@ -180,7 +189,7 @@ module _ (o : Opening) (z : openCode o ≡ 0) where
         ∙ length-take-le (i .taken) (i .actions) (omega (arith, f .places, taken-most))
 
     -- ── an event that enters, part by part ──
-    rows-next : (e : Event) → Entered c e → assignment (configured c e) ≡ upd (assignment c) (traceOf (symbolOf e))
+    rows-next : (e : Event) → Declared (c .users) (c .roles) e → assignment (configured c e) ≡ upd (assignment c) (traceOf (symbolOf e))
     rows-next (Acts u a) d = refl
     rows-next (Grants u r) d =
         take-set-lt (c .users) (c .«user_roles») u (setBit r (held c u)) (d .0) ∙ ap (λ x. put (assignment c) u (setBit r x)) (row-at u (d .0))
@@ -193,16 +202,16 @@ module _ (o : Opening) (z : openCode o ≡ 0) where
     more : (u : ℕ) → i .taken < 12 → takenOf (advanced c i (Acts u 0)) ≡ tried c i u
     more u free = taken-more i (notedFor c i u) (omega (arith, f .places))
 
-    taken-next : (e : Event) → Entered c e → code (ownRefusals c i e) ≡ 0 → takenOf (advanced c i e) ≡ takenOf i ++ noted (policy o) ua (traceOf (symbolOf e))
+    taken-next : (e : Event) → Declared (c .users) (c .roles) e → code (ownRefusals c i e) ≡ 0 → takenOf (advanced c i e) ≡ takenOf i ++ noted (policy o) ua (traceOf (symbolOf e))
     taken-next (Acts u a) d k =
         let j = clear (ownRefusals c i (Acts u a)) refl k in
         more u (leb-false 12 (i .taken) (j .0)) ∙ ap (λ x. takenOf i ++ (x ∷ [])) (noted-next u d)
     taken-next (Grants u r) d k = sym (append-nil (takenOf i))
     taken-next (Revokes u r) d k = sym (append-nil (takenOf i))
     taken-next Closes d k = sym (append-nil (takenOf i))
-    taken-next Malformed d k = absurd d
+    taken-next Malformed d k = sym (append-nil (takenOf i))
 
-    fits-next : (e : Event) → Entered c e → code (ownRefusals c i e) ≡ 0 → So (possible (policy o) 0 (takenOf (advanced c i e)))
+    fits-next : (e : Event) → Declared (c .users) (c .roles) e → code (ownRefusals c i e) ≡ 0 → So (possible (policy o) 0 (takenOf (advanced c i e)))
     fits-next (Acts u a) d k =
         let j = clear (ownRefusals c i (Acts u a)) refl k in
         ap₂ (λ φ s. possible φ 0 s) (sym same-term) (more u (leb-false 12 (i .taken) (j .0))) ∙ not-false (possible (term i) 0 (tried c i u)) (j .1 .0)
@@ -225,7 +234,7 @@ module _ (o : Opening) (z : openCode o ≡ 0) where
     places-next Closes = f .places
     places-next Malformed = f .places
 
-    below-next : (e : Event) → Entered c e → So (actedBelow (o .users) (traceOf (symbolOf e)))
+    below-next : (e : Event) → Declared (c .users) (c .roles) e → So (actedBelow (o .users) (traceOf (symbolOf e)))
     below-next (Acts u a) d = and-join (ltb u (o .users)) true (lt-so u (o .users) (subst (λ n. u < n) (f .same-users) d)) refl
     below-next (Grants u r) d = refl
     below-next (Revokes u r) d = refl
@@ -254,7 +263,7 @@ module _ (o : Opening) (z : openCode o ≡ 0) where
     trace-next : (e : Event) → traceOf (l ++ symbolOf e) ≡ t ++ traceOf (symbolOf e)
     trace-next e = trace-append l (symbolOf e)
 
-    follows-next : (e : Event) (n : ℕ) → Passed m e n → Entered c e → So (wellFormed (applied m e)) → Follows o (applied m e) (l ++ symbolOf e)
+    follows-next : (e : Event) (n : ℕ) → Passed m e n → Declared (c .users) (c .roles) e → So (wellFormed (applied m e)) → Follows o (applied m e) (l ++ symbolOf e)
     follows-next e n p d h =
         let (users, roles, words) = stays e in
         let s = traceOf (symbolOf e) in
@@ -300,9 +309,9 @@ module _ (o : Opening) (z : openCode o ≡ 0) where
         taken : eqb (eventCode m w (n 0)) 0 ≡ true → Left (eqb (eventCode m w (n 0)) 0)
         taken k =
             let accepts = eqb-true (eventCode m w (n 0)) 0 k in
-            let p = passed m e (n 0) accepts in
+            let p = accepted-has-passed m e (n 0) accepts in
             let h : So (wellFormed (applied m e)) = rw k at (well-next w (n 0) accepts) in
-            rw k (follows-next e (n 0) p (entered c e (declared (c .users) (c .roles) w) (p .in-layout)) h)
+            rw k (follows-next e (n 0) p (declared (c .users) (c .roles) w) h)
 
         refused : eqb (eventCode m w (n 0)) 0 ≡ false → Left (eqb (eventCode m w (n 0)) 0)
         refused k = rw k (subst (Follows o m) (sym (append-nil l)) f)

@@ -20,11 +20,12 @@ use Rattle.monitor.specs.declared.Event.the-variants.{Acts, Grants, Revo
 use Rattle.monitor.specs.Configurations.{held, withRow, withGrant, withoutGrant}
 use Rattle.monitor.specs.Instances.{noAction, notedFor, withAction, asClosed}
 use Rattle.monitor.specs.Events.{eventIn, ownRefusals, applied, eventCode, outcome}
+use Rattle.monitor.specs.Laws.{Passed}
 use Rattle.monitor.specs.Effects.{ActionAlone, BitAlone, MarkAlone, OwnPart, AcceptedAltersItsPart, HeldAltersNothing, RefusalAltersNothing}
 use Rattle.monitor.specs.Private.{Entered}
 use Rattle.monitor.proofs.Formed.{formed, users-within}
 use Rattle.monitor.proofs.Reading.{declared, entered}
-use Rattle.monitor.proofs.Order.{Passed, passed, workspace-kept}
+use Rattle.monitor.proofs.Order.{accepted-has-passed, workspace-kept}
 
 module _ (i : Instance) where
   action-alone : (a : Action) → i .taken < length (i .actions) → ActionAlone i a (withAction i a)
@@ -85,7 +86,7 @@ pub accepted-alters-its-part : AcceptedAltersItsPart
 unfolding outcome
 accepted-alters-its-part m w before n z =
     let e = eventIn m w in
-    let p = passed m e (length before) z in
+    let p = accepted-has-passed m e (length before) z in
     let c = m .configuration in
     rw z (go e p (entered c e (declared (c .users) (c .roles) w) (p .in-layout)))
   where

@@ -1,7 +1,7 @@
 -- The workspace can be filled for well-formed parts, with one more action by a declared user too; it then is filled.
 use mathlib.Core.Path.{_≡_, refl}
 use mathlib.Core.Bool.{Bool, So, _&&_}
-use mathlib.Core.List.{List, [], _∷_, _++_}
+use mathlib.Core.List.{List, [], _∷_}
 use mathlib.Core.Option.{Option, some, none}
 use Prim.Native.Nat.{ℕ, _≤_, _<_}
 use native.Mathlib.Numerals.{add-one}
@@ -22,6 +22,7 @@ use Rattle.workspace.specs.Workspace.{filled, isFillable, fillOf}
 use Rattle.monitor.specs.declared.Configuration.{Configuration}
 use Rattle.monitor.specs.declared.Instance.{Instance}
 use Rattle.monitor.specs.Instances.{policyOf, takenOf, term, withAction, actionOk}
+use Rattle.monitor.specs.Laws.{TakenMore}
 use Rattle.monitor.specs.Private.{Fillable}
 use Rattle.monitor.proofs.Formed.{ConfigurationFormed, InstanceFormed, formed-read, users-most}
 
@@ -55,7 +56,7 @@ all-known users units (a ∷ l) m h =
     and-join (known a) (all known l) (lt-so (a .user) 16 (omega (arith, so-lt (a .user) users u))) (all-known users units l m q)
 
 -- one more action
-pub taken-more : (i : Instance) (a : Action) → i .taken < length (i .actions) → takenOf (withAction i a) ≡ takenOf i ++ (a ∷ [])
+pub taken-more : TakenMore
 taken-more i a h = rw (add-one, take-suc-set (i .actions) (i .taken) a)
 
 module _ (c : Configuration) (i : Instance) (room : List ℕ) (k : ConfigurationFormed c) (f : InstanceFormed c i) (long : 8192 ≤ length room) where

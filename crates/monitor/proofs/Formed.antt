@@ -1,5 +1,5 @@
 -- What an accepted opening and a well-formed monitor say of their parts: none of the refusals applies.
-use mathlib.Core.Path.{_≡_, refl}
+use mathlib.Core.Path.{_≡_, refl, sym, ap, subst}
 use mathlib.Core.Bool.{Bool, So, _&&_}
 use mathlib.Core.List.{List}
 use Prim.Native.Nat.{ℕ, _^_, _≤_}
@@ -10,16 +10,19 @@ use borrow.Author.Tests.{leb-true, le-leb, not-false}
 use Rattle.soda.specs.Lists.{all}
 use Rattle.soda.proofs.Bools.{and-split, and-join, so-eq, eq-so}
 use Rattle.policy.specs.Refusals.{code, Clear}
-use Rattle.policy.specs.Words.{decode}
-use Rattle.policy.specs.Reading.{countOk, lengthOk, isTerm, isFormed, refusals, unitsOf}
-use Rattle.policy.proofs.Refusals.{clear, clear-front, clear-behind}
+use Rattle.policy.specs.Words.{decode, termOf}
+use Rattle.policy.specs.Reading.{countOk, lengthOk, isTerm, isFormed, refusals, unitsOf, answer, readPolicy}
+use Rattle.policy.specs.Accepted.{IsPolicy}
+use Rattle.policy.proofs.Refusals.{clear, clear-code, clear-front, clear-behind}
 use Rattle.policy.proofs.Scanning.{length-range, counts-most}
+use Rattle.policy.proofs.Accepted.{read-is-encode, decode-is-term}
 use Rattle.monitor.specs.declared.Configuration.{Configuration}
 use Rattle.monitor.specs.declared.Instance.{Instance}
 use Rattle.monitor.specs.declared.Monitor.{Monitor}
 use Rattle.monitor.specs.Configurations.{assignment, isZero, rowsOk, configurationOk}
 use Rattle.monitor.specs.Instances.{policyOf, takenOf, isIdle, actionOk, isReadable, isTakenOk, isTidy, instanceOk}
 use Rattle.monitor.specs.Monitors.{Opening, openRefusals, openCode, wellFormed}
+use Rattle.monitor.specs.Laws.{OpenedIsPolicy, OpenedRowsOk, OneEach, TwelveAtMost}
 use Rattle.monitor.proofs.Opening.{policy-refusals, rows-refusal}
 
 -- ── a policy that is read ──
@@ -44,7 +47,7 @@ pub words-few : {users roles : ℕ} (words : List ℕ) → PolicyOk users roles 
 words-few words r = length-range (length words) (r .long) .1
 
 -- rows that are accepted
-pub one-each : (users roles : ℕ) (rows : List ℕ) → So (rowsOk users roles rows) → length rows ≡ users
+pub one-each : OneEach
 one-each users roles rows h = so-eq (length rows) users (and-split (eqb (length rows) users) (all (λ r. ltb r (2 ^ roles)) rows) h .0)
 
 -- ── an opening that is accepted ──
@@ -60,9 +63,16 @@ module _ (o : Opening) (e : openCode o ≡ 0) where
   pub opens-read : PolicyOk (o .users) (o .roles) (o .words)
   opens-read = policy-ok (o .users) (o .roles) (o .words) opens-clear
 
-  pub opens-rows : So (rowsOk (o .users) (o .roles) (o .rows))
-  unfolding openRefusals
-  opens-rows = not-false (rowsOk (o .users) (o .roles) (o .rows)) (clear-behind (policy-refusals o) (rows-refusal o) all-clear .0)
+pub opened-rows-ok : OpenedRowsOk
+unfolding openRefusals
+opened-rows-ok o e = not-false (rowsOk (o .users) (o .roles) (o .rows)) (clear-behind (policy-refusals o) (rows-refusal o) (all-clear o e) .0)
+
+pub opened-is-policy : OpenedIsPolicy
+unfolding readPolicy
+opened-is-policy o e =
+    let accepted = ap (λ k. answer k (o .words)) (clear-code (policy-refusals o) (opens-clear o e)) in
+    let (φ, p, n, m) = read-is-encode (o .users) (o .roles) (o .words) (length (o .words)) (unitsOf (decode (o .words))) .0 accepted in
+    subst (IsPolicy (o .users) (o .roles) (o .words)) (sym (ap termOf (decode-is-term (o .users) (o .roles) (o .words) φ p))) p
 
 -- ── a well-formed configuration ──
 pub record ConfigurationFormed (c : Configuration) : Type 0 where
@@ -170,3 +180,6 @@ module _ (m : Monitor) where
   pub is-formed : Formed m → So (wellFormed m)
   is-formed f = and-join (configurationOk (m .configuration)) (instanceOk (m .configuration) (m .instance))
       (is-configuration-formed (m .configuration) (f .in-configuration)) (is-instance-formed (m .configuration) (m .instance) (f .in-instance))
+
+pub twelve-at-most : TwelveAtMost
+twelve-at-most m h = formed m h .in-instance .taken-most

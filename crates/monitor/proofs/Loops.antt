@@ -1,15 +1,16 @@
 -- What loops keep: a test of all elements from a place on, and a list copied into an array of zeros.
 use mathlib.Core.Path.{_≡_, refl, sym, ap, _∙_}
 use mathlib.Core.Bool.{Bool, true, false, So, _&&_}
-use mathlib.Core.List.{List, _++_, map}
+use mathlib.Core.List.{List, _++_}
 use Prim.Native.Nat.{ℕ, zero, suc, _+_, _-_, _≤_, _<_}
 use native.Mathlib.Nat.{le-of-lt}
 use native.Mathlib.Omega.{arith}
 use native.Mathlib.Numerals.{add-one}
-use lib.ListN.{length, getD, take, drop, set, replicate, length-map, drop-of-length-le}
+use lib.ListN.{length, getD, take, drop, set, replicate, drop-of-length-le}
 use lib.Seq.{drop-cons, take-suc, take-length, length-take-le, set-at, append-snoc}
 use Rattle.soda.specs.Lists.{all, padded}
 use Rattle.soda.proofs.Bools.{and-join}
+pub use Rattle.soda.proofs.Lists.{length-mapped}
 
 -- A loop that tests elements one by one, and is at place i: the test of all, which is b, is that of those from i on.
 module _ {A : Type 0} (f : A → Bool) (xs : List A) (d : A) (i : ℕ) {b : Bool} (kept : b ≡ all f (drop i xs)) where
@@ -48,7 +49,3 @@ copied-next n xs i within room =
 
 pub copied-all : (n : ℕ) (xs : List ℕ) (i : ℕ) → i ≡ length xs → copied n xs i ≡ padded n xs
 copied-all n xs i e = ap (copied n xs) e ∙ ap (λ (p : List ℕ). p ++ replicate (n - length xs) 0) (take-length xs)
-
--- what is known of an array of structs in a struct, for `search`: its elements are counted under a map
-pub length-mapped : (X Y : Type 0) (f : X → Y) (l : List X) (n : ℕ) → length (map f l) ≡ n → length l ≡ n
-length-mapped X Y f l n p = sym (length-map l f) ∙ p

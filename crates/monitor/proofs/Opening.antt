@@ -17,6 +17,7 @@ use Rattle.policy.specs.declared.PolicyRead.the-variants.{Accepted, Refused}
 use Rattle.policy.proofs.Refusals.{clear, code-front, code-behind}
 use Rattle.monitor.specs.Configurations.{rowsOk}
 use Rattle.monitor.specs.Monitors.{Opening, blank, openRefusals, openCode, fresh, opened, opening}
+use Rattle.monitor.specs.Laws.{OpenedIsFresh}
 
 -- what an accepted read says
 pub record IsRead (users roles : ℕ) (words : List ℕ) (n units : ℕ) : Type 0 where
@@ -72,10 +73,10 @@ module _ (o : Opening) where
   unfolding opened
   opening-refused k ne e = rw (e, ne-eqb k 0 ne)
 
-  pub opened-fresh : openCode o ≡ 0 → opened o ≡ fresh o
-  unfolding opened
-  opened-fresh e = rw e
-
   pub opening-accepted : openCode o ≡ 0 → record { code = 0; monitor = fresh o } ≡ opening o
   unfolding opened
   opening-accepted e = rw e
+
+pub opened-is-fresh : OpenedIsFresh
+unfolding opened
+opened-is-fresh o e = rw e

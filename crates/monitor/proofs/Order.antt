@@ -20,6 +20,7 @@ use Rattle.monitor.specs.declared.Event.the-variants.{Acts, Grants, Revo
 use Rattle.monitor.specs.Instances.{isClosed}
 use Rattle.monitor.specs.Monitors.{wellFormed, admission}
 use Rattle.monitor.specs.Events.{eventIn, isMalformed, entry, ownRefusals, configured, advanced, applied, workspaceAfter, eventRefusals, Outcome, outcome}
+use Rattle.monitor.specs.Laws.{WellFormedIsAdmitted, AcceptedHasPassed}
 use Rattle.monitor.specs.Private.{InstanceOutcome, ownOutcome, monitorOutcome}
 
 -- ── refusals in front of others ──
@@ -56,38 +57,31 @@ admits m n e =
     let k = clear-both (admission m n) [] refl e .0 in
     (ltb-false n 8192 (k .0), not-false (wellFormed m) (k .1 .0))
 
-pub is-admitted : (m : Monitor) (n : ℕ) → 8192 ≤ n → So (wellFormed m) → code (admission m n) ≡ 0
+pub well-formed-is-admitted : WellFormedIsAdmitted
 unfolding admission
-is-admitted m n long w = rw (le-ltb n 8192 long, w)
+well-formed-is-admitted m n long w = rw (le-ltb n 8192 long, w)
 
 pub enters : (i : Instance) (e : Event) → code (entry i e) ≡ 0 → (isClosed i ≡ false) × (isMalformed e ≡ false)
 enters i e z = let k = clear-both (entry i e) [] refl z .0 in (k .0, k .1 .0)
-
--- what is known of an event to which none of 12, 15, 10 and 7 applies
-pub record Passed (m : Monitor) (e : Event) (n : ℕ) : Type 0 where
-  pub long : 8192 ≤ n
-  pub is-well : So (wellFormed m)
-  pub is-open : isClosed (m .instance) ≡ false
-  pub in-layout : isMalformed e ≡ false
-  pub own : code (ownRefusals (m .configuration) (m .instance) e) ≡ 0
 
 module _ (m : Monitor) (e : Event) (n : ℕ) where
   abbrev own-list : Refusals
   own-list = ownRefusals (m .configuration) (m .instance) e
 
-  pub passed : code (eventRefusals m e n) ≡ 0 → Passed m e n
-  unfolding eventRefusals admission
-  passed z =
-      let k = clear-both (admission m n) (entry (m .instance) e ++ own-list) refl z in
-      let a = admits m n (clear-code (admission m n) (k .0)) in
-      let j = clear-both (entry (m .instance) e) own-list refl (k .1) in
-      let b = enters (m .instance) e (clear-code (entry (m .instance) e) (j .0)) in
-      record { long = a .0; is-well = a .1; is-open = b .0; in-layout = b .1; own = j .1 }
-
   -- behind them the event's own refusals decide
   pub goes-on : 8192 ≤ n → So (wellFormed m) → isClosed (m .instance) ≡ false → isMalformed e ≡ false → code (eventRefusals m e n) ≡ code own-list
   unfolding eventRefusals admission
   goes-on long w o l = rw (le-ltb n 8192 long, w, o, l)
+
+pub accepted-has-passed : AcceptedHasPassed
+unfolding eventRefusals admission
+accepted-has-passed m e n z =
+    let own = own-list m e n in
+    let k = clear-both (admission m n) (entry (m .instance) e ++ own) refl z in
+    let a = admits m n (clear-code (admission m n) (k .0)) in
+    let j = clear-both (entry (m .instance) e) own refl (k .1) in
+    let b = enters (m .instance) e (clear-code (entry (m .instance) e) (j .0)) in
+    record { long = a .0; is-well = a .1; is-open = b .0; in-layout = b .1; own = j .1 }
 
 -- ── what the checks give ──
 module _ (m : Monitor) (w : ℕ) (before : List ℕ) where

@@ -23,22 +23,22 @@ use Rattle.soda.proofs.Splits.{split-append, all-parts}
 use Rattle.policy.specs.Words.{decode}
 use Rattle.policy.specs.Reading.{lengthOk, unitsOf, metIn, metOf}
 use Rattle.policy.proofs.Refusals.{clear, clear-code}
-use Rattle.monitor.specs.declared.Monitor.{Monitor}
 use Rattle.monitor.specs.declared.Configuration.{Configuration}
 use Rattle.monitor.specs.declared.Instance.{Instance}
 use Rattle.monitor.specs.declared.Event.{Event}
 use Rattle.monitor.specs.declared.Event.the-variants.{Acts, Grants, Revokes, Closes, Malformed}
 use Rattle.monitor.specs.Configurations.{assignment, held, withRow, isZero, configurationOf}
 use Rattle.monitor.specs.Instances.{policyOf, takenOf, notedFor, withAction, instanceOf, actionOk, isIdle, noAction}
-use Rattle.monitor.specs.Monitors.{Opening, openCode, fresh, wellFormed}
+use Rattle.monitor.specs.Monitors.{Opening, openCode, fresh}
 use Rattle.monitor.specs.Events.{eventIn, ownRefusals, applied, outcome}
-use Rattle.monitor.specs.Effects.{OpenedIsWellFormed, AcceptedStaysWellFormed}
+use Rattle.monitor.specs.Laws.{Passed}
+use Rattle.monitor.specs.Effects.{OpenedIsWellFormed, AcceptedStaysWellFormed, EventKeepsWellFormed}
 use Rattle.monitor.specs.Private.{Entered}
 use Rattle.monitor.proofs.Digits.{or-is-set, sub-is-clear}
 use Rattle.monitor.proofs.Loops.{all-replicate}
 use Rattle.monitor.proofs.Reading.{declared, entered}
-use Rattle.monitor.proofs.Order.{Passed, passed}
-use Rattle.monitor.proofs.Formed.{ConfigurationFormed, InstanceFormed, Formed, formed, is-formed, words-few, one-each, opens-clear, opens-read, opens-rows}
+use Rattle.monitor.proofs.Order.{accepted-has-passed}
+use Rattle.monitor.proofs.Formed.{ConfigurationFormed, InstanceFormed, Formed, formed, is-formed, words-few, one-each, opens-clear, opens-read, opened-rows-ok}
 use Rattle.monitor.proofs.Opening.{policy-refusals}
 use Rattle.monitor.proofs.Fillable.{taken-more}
 
@@ -145,12 +145,12 @@ module _ (o : Opening) (e : openCode o ≡ 0) where
   opened-configuration : ConfigurationFormed (configurationOf (o .users) (o .roles) (o .rows))
   opened-configuration = record {
     counts = opens-read o e .counts;
-    rows-ok = rw rows-taken (opens-rows o e);
+    rows-ok = rw rows-taken (opened-rows-ok o e);
     rows-zero = rw (← n, drop-append-seam (o .rows) (replicate (16 - length (o .rows)) 0)) (zeros (16 - length (o .rows)));
   }
     where
       n : length (o .rows) ≡ o .users
-      n = one-each (o .users) (o .roles) (o .rows) (opens-rows o e)
+      n = one-each (o .users) (o .roles) (o .rows) (opened-rows-ok o e)
 
       rows-taken : take (o .users) (padded 16 (o .rows)) ≡ o .rows
       rows-taken = ap (λ (k : ℕ). take k (padded 16 (o .rows))) (sym n) ∙ take-append-seam (o .rows) (replicate (16 - length (o .rows)) 0)
@@ -174,7 +174,7 @@ unfolding outcome
 accepted-stays-well-formed m w before n z =
     let e = eventIn m w in
     let c = m .configuration in
-    let p = passed m e (length before) z in
+    let p = accepted-has-passed m e (length before) z in
     rw z (is-formed (applied m e) (go e p (formed m (p .is-well)) (entered c e (declared (c .users) (c .roles) w) (p .in-layout))))
   where
     go : (e : Event) → Passed m e (length before) → Formed m → Entered (m .configuration) e → Formed (applied m e)
@@ -210,7 +210,7 @@ accepted-stays-well-formed m w before n z =
     go Malformed p f d = absurd d
 
 -- whatever an event answers
-pub left-formed : (m : Monitor) (w : ℕ) (before : List ℕ) → length (m .instance .actions) ≡ 12 → So (wellFormed m) → So (wellFormed (outcome m w before .monitor))
+pub event-keeps-well-formed : EventKeepsWellFormed
 unfolding outcome
-left-formed m w before n h =
+event-keeps-well-formed m w before n h =
     by-test (eqb (outcome m w before .code) 0) (λ t. accepted-stays-well-formed m w before n (so-eq (outcome m w before .code) 0 t)) (λ f. rw f h)

@@ -9,20 +9,14 @@ use Rattle.monitor.specs.declared.Configuration.{Configuration}
 use Rattle.monitor.specs.declared.Event.{Event}
 use Rattle.monitor.specs.declared.Event.the-variants.{Acts, Grants, Revokes, Closes, Malformed}
 use Rattle.monitor.specs.Events.{eventOf, readEvent, isMalformed}
+use Rattle.monitor.specs.Laws.{Declared, ReadIsDeclared}
 use Rattle.monitor.specs.Private.{Entered}
-
-abbrev pub Declared : ℕ → ℕ → Event → Type 0
-Declared users roles (Acts u a) = u < users
-Declared users roles (Grants u r) = (u < users) × (r < roles)
-Declared users roles (Revokes u r) = (u < users) × (r < roles)
-Declared users roles Closes = Unit
-Declared users roles Malformed = Unit
 
 either-way : (P : Event → Type 0) (b : Bool) {x y : Event} → (So b → P x) → P y → P (cond b x y)
 either-way P true f p = f refl
 either-way P false f p = p
 
-pub declared : (users roles w : ℕ) → Declared users roles (readEvent users roles w)
+pub declared : ReadIsDeclared
 unfolding readEvent
 declared users roles w = go (w / 2 ^ 24) (w / 2 ^ 8 % 2 ^ 8) (w % 2 ^ 8)
   where

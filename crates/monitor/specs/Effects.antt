@@ -84,3 +84,9 @@ abbrev pub AcceptedStaysWellFormed : Type 0
 AcceptedStaysWellFormed =
     (m : Monitor) (w : ℕ) (before : List ℕ) → length (m .instance .actions) ≡ 12 → outcome m w before .code ≡ 0
     → So (wellFormed (outcome m w before .monitor))
+
+-- Whatever an event answers, it leaves a well-formed monitor well formed.
+abbrev pub EventKeepsWellFormed : Type 0
+EventKeepsWellFormed =
+    (m : Monitor) (w : ℕ) (before : List ℕ) → length (m .instance .actions) ≡ 12 → So (wellFormed m)
+    → So (wellFormed (outcome m w before .monitor))

@@ -6,6 +6,7 @@ pub mod Statuses
 pub mod MultisetTest
 pub mod Runs
 -- What is proved of them.
+pub mod Laws
 pub mod Effects
 -- The contracts of private functions.
 pub mod Private

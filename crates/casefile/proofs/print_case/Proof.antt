@@ -11,7 +11,7 @@ use Rattle.monitor.specs.declared.Monitor.{Monitor}
 use Rattle.monitor.specs.declared.Answer.{Answer}
 use Rattle.policy.specs.Codes.{CASE}
 use Rattle.monitor.specs.Monitors.{openCode, fresh, opened, wellFormed}
-use Rattle.monitor.proofs.Opening.{opened-fresh}
+use Rattle.monitor.proofs.Opening.{opened-is-fresh}
 use Rattle.monitor.proofs.Preserved.{opened-is-well-formed}
 use Rattle.casefile.specs.declared.Printed.the-variants.{Written}
 use Rattle.casefile.specs.Cases.{caseOk, openingOf, eventWords}
@@ -123,7 +123,7 @@ module _ (c : tie.Else3) where
   accepted = sym (code-is (c .before)) ∙ c .if3 .left
 
   fresh-is : c .before .open-case .result .monitor ≡ fresh (openingOf (case (c .before)))
-  fresh-is = left-is (c .before) ∙ opened-fresh (openingOf (case (c .before))) accepted
+  fresh-is = left-is (c .before) ∙ opened-is-fresh (openingOf (case (c .before))) accepted
 
 run-requires : tie.Need-run-requires
 unfolding fresh

@@ -9,7 +9,7 @@ use Rattle.monitor.specs.declared.Monitor.{Monitor}
 use Rattle.monitor.specs.Monitors.{wellFormed}
 use Rattle.monitor.specs.Events.{eventMonitor}
 use Rattle.monitor.specs.Runs.{run, taken}
-use Rattle.monitor.proofs.Formed.{formed}
+use Rattle.monitor.proofs.Formed.{twelve-at-most}
 use Rattle.casefile.specs.Cases.{wides, eventWords}
 use Rattle.casefile.specs.Texts.{takenText, caseRun, stepLines, runText}
 use Rattle.casefile.specs.Private.{HasRoom, Put}
@@ -157,7 +157,7 @@ loop-again c =
 -- after the loop
 module _ (e : tie.After-loop Inv-loop μ-loop) where
   taken-short : length (takenText (e .before .loop .current .instance .taken)) ≤ 9
-  taken-short = let f = formed (e .before .loop .current) (e .before .loop .inv .isFormed) in taken-length (e .before .loop .current .instance .taken) (omega (arith, f .in-instance .taken-most))
+  taken-short = let n = twelve-at-most (e .before .loop .current) (e .before .loop .inv .isFormed) in taken-length (e .before .loop .current .instance .taken) (omega arith)
 
   all-events : words (e .before) ≡ eventWords (bytes (e .before))
   all-events =

@@ -9,8 +9,8 @@ use Rattle.monitor.specs.declared.Monitor.{Monitor}
 use Rattle.monitor.specs.Monitors.{wellFormed}
 use Rattle.monitor.specs.Events.{Outcome, outcome, eventCode, eventMonitor}
 use Rattle.monitor.specs.Statuses.{StatusOutcome, statusLetter, statusOf}
-use Rattle.monitor.proofs.Loops.{length-mapped}
-use Rattle.monitor.proofs.Preserved.{left-formed}
+use Rattle.soda.proofs.Lists.{length-mapped}
+use Rattle.monitor.proofs.Preserved.{event-keeps-well-formed}
 use Rattle.casefile.specs.Texts.{lineText}
 use Rattle.casefile.proofs.Lines.{lineOf, line-short}
 use Rattle.casefile.proofs.runs.step.Statement.{statement}
@@ -54,7 +54,7 @@ module _ (c : tie.After-event) where
 
   formed : So (wellFormed (c .event .result .monitor))
   formed = subst (λ (i : Monitor). So (wellFormed i)) (sym (ap (λ (o : Outcome). o .monitor) (c .event .ensures)))
-      (left-formed before word (start .args .workspace .now) places (start .pre .isFormed))
+      (event-keeps-well-formed before word (start .args .workspace .now) places (start .pre .isFormed))
 
   room : length (c .event .last .1 .1 .0) ≡ 8192
   room = c .event .kept .1 .1 .0 ∙ start .pre .size

@@ -16,7 +16,7 @@ use Rattle.monitor.specs.declared.Answer.{Answer}
 use Rattle.monitor.specs.Configurations.{isZero}
 use Rattle.monitor.specs.Monitors.{Opening, given, policy, openCode, fresh}
 use Rattle.monitor.specs.MultisetTest.{total, listed, notedBy, testRefusals, testCode}
-use Rattle.monitor.proofs.Opening.{opened-fresh}
+use Rattle.monitor.proofs.Opening.{opened-is-fresh}
 use Rattle.monitor.proofs.Formed.{words-few, opens-read}
 use Rattle.monitor.proofs.Adding.{total-zero}
 use Rattle.monitor.proofs.Counted.{counted, of-counted, fillable-counted, code-opening, code-own, refused-test, yes-test, no-test}
@@ -66,7 +66,7 @@ module _ (e : tie.Else2) where
   accepted = sym (opened-code (e .before)) ∙ e .if2 .left
 
   opened-monitor : e .before .«open» .result .monitor ≡ fresh (asked begun)
-  opened-monitor = ap (λ (x : Answer). x .monitor) (e .before .«open» .ensures) ∙ opened-fresh (asked begun) accepted
+  opened-monitor = ap (λ (x : Answer). x .monitor) (e .before .«open» .ensures) ∙ opened-is-fresh (asked begun) accepted
 
 total-from-requires : tie.Need-total-from-requires
 total-from-requires c κs = search needs

@@ -1,0 +1,69 @@
+-- What is proved of openings, well-formed monitors and events. Statements only.
+use mathlib.Core.Path.{_≡_}
+use mathlib.Core.Bool.{false, So}
+use mathlib.Core.List.{List, [], _∷_, _++_}
+use Prim.Native.Nat.{ℕ, _≤_, _<_}
+use lib.ListN.{length}
+use Rattle.soda.specs.declared.Action.{Action}
+use Rattle.policy.specs.Refusals.{code}
+use Rattle.policy.specs.Accepted.{IsPolicy}
+use Rattle.monitor.specs.declared.Instance.{Instance}
+use Rattle.monitor.specs.declared.Monitor.{Monitor}
+use Rattle.monitor.specs.declared.Event.{Event}
+use Rattle.monitor.specs.declared.Event.the-variants.{Acts, Grants, Revokes, Closes, Malformed}
+use Rattle.monitor.specs.Configurations.{rowsOk}
+use Rattle.monitor.specs.Instances.{takenOf, isClosed, withAction}
+use Rattle.monitor.specs.Monitors.{Opening, policy, openCode, fresh, opened, wellFormed, admission}
+use Rattle.monitor.specs.Events.{readEvent, isMalformed, ownRefusals, eventRefusals}
+
+-- ── an accepted opening ──
+-- It leaves the opened sheet; its words are those of its policy, a well-formed term with declared roles and users ..
+abbrev pub OpenedIsFresh : Type 0
+OpenedIsFresh = (o : Opening) → openCode o ≡ 0 → opened o ≡ fresh o
+
+abbrev pub OpenedIsPolicy : Type 0
+OpenedIsPolicy = (o : Opening) → openCode o ≡ 0 → IsPolicy (o .users) (o .roles) (o .words) (policy o)
+
+-- .. and 6 does not apply to its grants, so they are one row a user.
+abbrev pub OpenedRowsOk : Type 0
+OpenedRowsOk = (o : Opening) → openCode o ≡ 0 → So (rowsOk (o .users) (o .roles) (o .rows))
+
+abbrev pub OneEach : Type 0
+OneEach = (users roles : ℕ) (rows : List ℕ) → So (rowsOk users roles rows) → length rows ≡ users
+
+-- ── a well-formed monitor ──
+-- It holds at most twelve actions, and where the workspace is long enough, of length n, neither 12 nor 15 applies to it.
+abbrev pub TwelveAtMost : Type 0
+TwelveAtMost = (m : Monitor) → So (wellFormed m) → m .instance .taken ≤ 12
+
+abbrev pub WellFormedIsAdmitted : Type 0
+WellFormedIsAdmitted = (m : Monitor) (n : ℕ) → 8192 ≤ n → So (wellFormed m) → code (admission m n) ≡ 0
+
+-- ── events ──
+-- the users and roles that an event names are declared
+abbrev pub Declared : ℕ → ℕ → Event → Type 0
+Declared users roles (Acts u a) = u < users
+Declared users roles (Grants u r) = (u < users) × (r < roles)
+Declared users roles (Revokes u r) = (u < users) × (r < roles)
+Declared users roles Closes = Unit
+Declared users roles Malformed = Unit
+
+-- A word that is read names none but declared ones.
+abbrev pub ReadIsDeclared : Type 0
+ReadIsDeclared = (users roles w : ℕ) → Declared users roles (readEvent users roles w)
+
+-- none of 12, 15, 10 and 7 applies to an event, and its own refusals give 0; n is the length of the workspace
+pub record Passed (m : Monitor) (e : Event) (n : ℕ) : Type 0 where
+  pub long : 8192 ≤ n
+  pub is-well : So (wellFormed m)
+  pub is-open : isClosed (m .instance) ≡ false
+  pub in-layout : isMalformed e ≡ false
+  pub own : code (ownRefusals (m .configuration) (m .instance) e) ≡ 0
+
+-- So it is of an accepted event.
+abbrev pub AcceptedHasPassed : Type 0
+AcceptedHasPassed = (m : Monitor) (e : Event) (n : ℕ) → code (eventRefusals m e n) ≡ 0 → Passed m e n
+
+-- An action that is taken stands behind the taken ones.
+abbrev pub TakenMore : Type 0
+TakenMore = (i : Instance) (a : Action) → i .taken < length (i .actions) → takenOf (withAction i a) ≡ takenOf i ++ (a ∷ [])
