@@ -65,6 +65,10 @@ module _ (t : ℕ) where
   written : (s : Start) → length (set (out s) 0 (s .args .op)) ≡ length (out s)
   written s = length-set (out s) 0 (s .args .op)
 
+  -- the slices are known
+  abbrev begun : lts.After-slice-known2 calls at merge.Post → Start
+  begun c = c .before .before .before
+
   add-gap : lts.Need-add-gap calls at merge.Post
   add-gap c = search needs
 
@@ -72,16 +76,16 @@ module _ (t : ℕ) where
   mul-from c = search needs
 
   slice-read-from : lts.Need-slice-read-from calls at merge.Post
-  slice-read-from c = all (c .before .before .before) .gap
+  slice-read-from c = all (begun c) .gap
 
   cast-from : lts.Need-cast-from calls at merge.Post
   cast-from c = search needs
 
   add-from : lts.Need-add-from calls at merge.Post
-  add-from c = omega (arith, all (c .before .before .before))
+  add-from c = omega (arith, all (begun c))
 
   first-operand-requires : lts.Need-first-operand-requires calls at merge.Post
-  first-operand-requires c κs = all (c .before .before .before) .some
+  first-operand-requires c κs = all (begun c) .some
 
   add-n : lts.Need-add-n calls at merge.Post
   add-n c = search needs
@@ -91,7 +95,7 @@ module _ (t : ℕ) where
   Found = lts.After-first-operand calls at merge.Post
 
   abbrev start : Found → Start
-  start c = c .before .before .before .before
+  start c = begun (c .before)
 
   abbrev x : Found → List ℕ
   x c = c .first-operand .result .now
@@ -117,12 +121,15 @@ module _ (t : ℕ) where
   words-le-requires : lts.Need-words-le-requires calls at merge.Post
   words-le-requires c κs = search needs
 
-  -- it comes first, or not
+  -- it is compared, and comes first, or not
+  abbrev compared : lts.After-words-le calls at merge.Post → Found
+  compared c = c .before .before .before
+
   abbrev smaller : lts.Then1 calls at merge.Post → Found
-  smaller c = c .before .before .before .before
+  smaller c = compared (c .before)
 
   abbrev larger : lts.Else1 calls at merge.Post → Found
-  larger c = c .before .before .before .before
+  larger c = compared (c .before)
 
   copy-requires : lts.Need-copy-requires calls at merge.Post
   copy-requires c κs =
@@ -134,8 +141,11 @@ module _ (t : ℕ) where
   abbrev Copied : Type 0
   Copied = lts.After-copy calls at merge.Post
 
+  abbrev chosen : Copied → lts.Then1 calls at merge.Post
+  chosen c = c .before .before
+
   abbrev found : Copied → Found
-  found c = smaller (c .before .before)
+  found c = smaller (chosen c)
 
   abbrev copied : Copied → List ℕ
   copied c = c .copy .last .1 .0
@@ -143,18 +153,21 @@ module _ (t : ℕ) where
   copied-length : (c : Copied) → length (copied c) ≡ length (out (start (found c)))
   copied-length c = c .copy .kept .1 .0 ∙ written (start (found c))
 
-  shared-slice-read-if2 : lts.Need-shared-slice-read-if2 calls at merge.Post
-  shared-slice-read-if2 c = all (start (found (c .before .before .before))) .some
+  -- what stands behind it is read: its chain goes on, or not; and the call for the rest
+  abbrev behind : lts.After-shared-slice-known2 calls at merge.Post → Copied
+  behind c = c .before .before .before
 
-  -- its chain goes on, or not; and the call for the rest
   abbrev on : lts.Then2 calls at merge.Post → Copied
-  on c = c .before .before .before .before
+  on c = behind (c .before)
 
   abbrev off : lts.Else2 calls at merge.Post → Copied
-  off c = c .before .before .before .before
+  off c = behind (c .before)
 
   abbrev again : lts.After-merge calls at merge.Post → lts.Then2 calls at merge.Post
   again c = c .before .before .before
+
+  shared-slice-read-if2 : lts.Need-shared-slice-read-if2 calls at merge.Post
+  shared-slice-read-if2 c = all (start (found (behind c))) .some
 
   more : (c : lts.Then2 calls at merge.Post) → let f = found (on c) in 1 + length (x f) ≤ length (a (start f))
   more c =
@@ -208,9 +221,8 @@ module _ (t : ℕ) where
       let d = on e in
       let f = found d in
       let s = start f in
-      let p = d .before .before .before in
       left-again (s .args .op) (a s) (out s) (is-x f) (d .copy .ensures)
-      (sym (p .words-le .ensures) ∙ d .before .before .if1 .taken) (e .if2 .taken) (c .before .before .merge .ensures)
+      (sym (chosen d .before .words-le .ensures) ∙ chosen d .if1 .taken) (e .if2 .taken) (c .before .before .merge .ensures)
 
   same-length-2 : lts.Need-same-length-2 calls at merge.Post
   same-length-2 c = copied-length (off c)
@@ -220,9 +232,8 @@ module _ (t : ℕ) where
       let d = off c in
       let f = found d in
       let s = start f in
-      let p = d .before .before .before in
       left-last (s .args .op) (a s) (out s) (is-x f) (d .copy .ensures)
-      (sym (p .words-le .ensures) ∙ d .before .before .if1 .taken) (c .if2 .left)
+      (sym (chosen d .before .words-le .ensures) ∙ chosen d .if1 .taken) (c .if2 .left)
 
   -- ── the other is the smaller ──
   mul-words-in : lts.Need-mul-words-in calls at merge.Post
@@ -240,10 +251,14 @@ module _ (t : ℕ) where
   words-in-requires : lts.Need-words-in-requires calls at merge.Post
   words-in-requires c κs = search needs
 
+  -- its first operand is counted, then pulled
+  abbrev passed-by : lts.After-words-in calls at merge.Post → lts.Else1 calls at merge.Post
+  passed-by c = c .before .before .before
+
   pull-requires : lts.Need-pull-requires calls at merge.Post
   pull-requires c κs =
       let d = c .before in
-      let s = start (larger (d .before .before .before)) in
+      let s = start (larger (passed-by d)) in
       omega (arith, written s, right-room (s .args .op) (a s) (out s) (d .words-in .ensures) (given s))
 
   abbrev Pulled : Type 0
@@ -253,7 +268,7 @@ module _ (t : ℕ) where
   counted c = c .before .before
 
   abbrev found-2 : Pulled → Found
-  found-2 c = larger (counted c .before .before .before)
+  found-2 c = larger (passed-by (counted c))
 
   abbrev pulled : Pulled → List ℕ
   pulled c = c .pull .last .0
@@ -310,7 +325,7 @@ module _ (t : ℕ) where
       let d = on-2 e in
       let f = found-2 d in
       let s = start f in
-      let i = counted d .before .before .before in
+      let i = passed-by (counted d) in
       right-again (s .args .op) (a s) (out s) (counted d .words-in .ensures) (d .pull .ensures) (is-x f)
       (sym (i .before .words-le .ensures) ∙ i .if1 .left) (e .if3 .taken) (c .before .before .merge2 .ensures)
 
@@ -329,7 +344,7 @@ module _ (t : ℕ) where
       let d = off-2 e in
       let f = found-2 d in
       let s = start f in
-      let i = counted d .before .before .before in
+      let i = passed-by (counted d) in
       right-last (s .args .op) (a s) (out s) (counted d .words-in .ensures) (d .pull .ensures) (is-x f)
       (sym (i .before .words-le .ensures) ∙ i .if1 .left) (e .if3 .left) (c .before .before .copy2 .ensures)
 

@@ -39,8 +39,12 @@ module _ (t : ℕ) where
     merge.Learnt,
   )
 
+  -- the first word is read
+  abbrev begun : lts.After-shared-slice-known2 calls at normal-term.Post → lts.Start calls at normal-term.Post
+  begun c = c .before .before .before
+
   shared-slice-read-w : lts.Need-shared-slice-read-w calls at normal-term.Post
-  shared-slice-read-w c = spelt-some (c .before .before .before .pre .1)
+  shared-slice-read-w c = spelt-some (begun c .pre .1)
 
   sides-of-requires : lts.Need-sides-of-requires calls at normal-term.Post
   sides-of-requires c κs = search needs
@@ -50,7 +54,7 @@ module _ (t : ℕ) where
   Place = lts.After-sides-of calls at normal-term.Post
 
   abbrev start : Place → lts.Start calls at normal-term.Post
-  start c = c .before .before .before .before
+  start c = begun (c .before)
 
   abbrev ws : Place → List ℕ
   ws c = start c .args .words .now
@@ -135,9 +139,13 @@ module _ (t : ℕ) where
   part-normal-term-end-3 : lts.Need-part-normal-term-end-3 calls at normal-term.Post
   part-normal-term-end-3 c = search needs
 
+  -- the second side and the room for it are passed on
+  abbrev passed-on : lts.After-normal-term-arg3 calls at normal-term.Post → First
+  passed-on c = c .before .before .before
+
   normal-term-requires-2 : lts.Need-normal-term-requires-2 calls at normal-term.Post
   normal-term-requires-2 c κs =
-      let d = c .before .before .before in
+      let d = passed-on c in
       let e = parted d in
       let p = e .before in
       let s = spelt p in (
@@ -147,7 +155,7 @@ module _ (t : ℕ) where
 
   -- the second side is written, and both are merged
   abbrev second : lts.After-normal-term2 calls at normal-term.Post → First
-  second c = c .before .before .before .before
+  second c = passed-on (c .before)
 
   abbrev sides-written : lts.After-merge-arg calls at normal-term.Post → lts.After-out calls at normal-term.Post
   sides-written c = c .before .before .before
@@ -238,8 +246,11 @@ module _ (t : ℕ) where
   abbrev inside : lts.After-slice-known4 calls at normal-term.Post → lts.After-normal-term3 calls at normal-term.Post
   inside c = c .before .before
 
+  abbrev one-sided : lts.After-normal-term3 calls at normal-term.Post → lts.Else2 calls at normal-term.Post
+  one-sided c = c .before .before .before
+
   abbrev over : lts.After-slice-known4 calls at normal-term.Post → lts.Else2 calls at normal-term.Post
-  over c = inside c .before .before .before
+  over c = one-sided (inside c)
 
   add-result-2 : lts.Need-add-result-2 calls at normal-term.Post
   add-result-2 c =
