@@ -27,7 +27,10 @@ count-ok-requires-2 : tie.Need-count-ok-requires-2
 count-ok-requires-2 c κs = search needs
 
 -- the users' count is accepted
-users-ok : (e : tie.Else1) → countOk (e .before .before .args .self .users) ≡ true
+abbrev begun : tie.Else1 → tie.Start
+begun e = e .before .before
+
+users-ok : (e : tie.Else1) → countOk (begun e .args .self .users) ≡ true
 users-ok e = passed (e .before .count-ok .ensures) (e .if1 .left)
 
 returns-2 : tie.Need-returns-2
@@ -36,14 +39,17 @@ returns-2 c = simp (users-ok (c .before .before), failed (c .before .count-ok2 .
 
 -- both counts are
 module _ (e : tie.Else2) where
+  abbrev users-counted : tie.Else1
+  users-counted = e .before .before
+
   abbrev start : tie.Start
-  start = e .before .before .before .before
+  start = begun users-counted
 
   roles-ok : countOk (start .args .self .roles) ≡ true
   roles-ok = passed (e .before .count-ok2 .ensures) (e .if2 .left)
 
   users-few : start .args .self .users ≤ length (start .args .self .«user_roles»)
-  users-few = omega (arith, count-most (start .args .self .users) (users-ok (e .before .before)), rows-length start)
+  users-few = omega (arith, count-most (start .args .self .users) (users-ok users-counted), rows-length start)
 
 cast-users : tie.Need-cast-users
 cast-users c = search needs
@@ -51,23 +57,27 @@ cast-users c = search needs
 array-share-prefix-rows : tie.Need-array-share-prefix-rows
 array-share-prefix-rows c = users-few (c .before .before)
 
+-- the rows are lent
+abbrev shared : tie.After-rows2 → tie.Else2
+shared c = c .before .before .before
+
 slice-aggregate-rows-ok : tie.Need-slice-aggregate-rows-ok
 slice-aggregate-rows-ok c =
-    let e = c .before .before .before in
+    let e = shared c in
     sym (length-take-le (start e .args .self .users) (start e .args .self .«user_roles») (users-few e))
 
 rows-ok-requires : tie.Need-rows-ok-requires
-rows-ok-requires c κs = let e = c .before .before .before in count-most (start e .args .self .roles) (roles-ok e)
+rows-ok-requires c κs = let e = shared c in count-most (start e .args .self .roles) (roles-ok e)
 
 -- the test before the rows'
 abbrev rows-at : tie.After-rows-ok → tie.Else2
-rows-at c = c .before .before .before .before
+rows-at c = shared (c .before)
 
 returns-3 : tie.Need-returns-3
 unfolding configurationOk
 returns-3 c =
     let e = rows-at (c .before) in
-    simp (users-ok (e .before .before), roles-ok e, failed (c .before .rows-ok .ensures) (c .if3 .taken))
+    simp (users-ok (users-counted e), roles-ok e, failed (c .before .rows-ok .ensures) (c .if3 .taken))
 
 zero-rows-requires : tie.Need-zero-rows-requires
 zero-rows-requires c κs = search needs
@@ -77,7 +87,7 @@ unfolding configurationOk
 returns-4 c =
     let t = c .before in
     let e = rows-at (t .before) in
-    simp (users-ok (e .before .before), roles-ok e, passed (t .before .rows-ok .ensures) (t .if3 .left)) (c .zero-rows .ensures)
+    simp (users-ok (users-counted e), roles-ok e, passed (t .before .rows-ok .ensures) (t .if3 .left)) (c .zero-rows .ensures)
 
 pub is-well-formed-spec : {M : Type 1} → statement M
 is-well-formed-spec =

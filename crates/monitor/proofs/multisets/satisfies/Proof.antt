@@ -30,16 +30,20 @@ counts-length s = search needs
 abbrev asked : tie.Start → Opening
 asked s = given (s .args .users) (s .args .roles) (s .args .words .now) (s .args .rows .now)
 
+-- the slices are known
+abbrev first : tie.After-slice-known → tie.Start
+first c = c .before .before .before
+
 -- ── 12 ──
 returns : tie.Need-returns
 unfolding testRefusals
 returns c =
-    let s = c .before .before .before .before in
+    let s = first (c .before) in
     refused-test (asked s) (s .args .counts) (s .args .workspace .now) WORKSPACE (omega arith) (rw (lt-ltb (length (s .args .workspace .now)) 8192 (c .if1 .taken)))
 
 module _ (e : tie.Else1) where
   abbrev start : tie.Start
-  start = e .before .before .before .before
+  start = first (e .before)
 
   long : ltb (length (start .args .workspace .now)) 8192 ≡ false
   long = le-ltb (length (start .args .workspace .now)) 8192 (e .if1 .left)
@@ -124,17 +128,21 @@ module _ (e : tie.Else4) where
       code-own (asked from) (from .args .counts) (from .args .workspace .now) (long (opened-there .before .before)) (accepted opened-there)
       ∙ rw (declared names-declared, le-ltb 12 (total (from .args .counts)) few)
 
+-- the opened monitor is taken apart
+abbrev clear : tie.After-instance → tie.Else4
+clear c = c .before .before .before
+
 with-multiset-requires : tie.Need-with-multiset-requires
 unfolding fresh
 with-multiset-requires c κs =
-    let e = c .before .before .before in
+    let e = clear c in
     let o = opened-there e in
     rw (opened-monitor o) (words-few (from e .args .words .now) (opens-read (asked (from e)) (accepted o)), omega (arith, few e))
 
 -- the instance with the multiset's actions
 module _ (c : tie.After-with-multiset) where
   abbrev passed-all : tie.Else4
-  passed-all = c .before .before .before .before
+  passed-all = clear (c .before)
 
   abbrev given-there : tie.Start
   given-there = from passed-all
