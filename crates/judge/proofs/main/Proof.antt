@@ -27,10 +27,14 @@ fits bytes out {n} {new} l e f k =
     let b : length new ≡ length (caseText bytes ++ drop (length (caseText bytes)) out) = ap length f ∙ rw long in
     omega (arith, length-append (caseText bytes) (drop (length (caseText bytes)) out))
 
+-- the answer's length, and the call that gave it
+abbrev answered : tie.After-length → tie.After-print-case
+answered c = c .before .before .before
+
 -- the text, once it is written
 module _ (c : tie.After-known-told) where
   abbrev called : tie.After-print-case
-  called = c .before .before .before .before
+  called = answered (c .before)
 
   abbrev new : List ℕ
   new = called .print-case .last .1 .0

@@ -14,12 +14,15 @@ use Rattle.casefile.proofs.texts.put_decimal.Tie as tie
 digit-of-requires : tie.Need-digit-of-requires
 digit-of-requires c κs = search needs
 
--- one digit, or two
+-- one digit, two, or three
 abbrev one : tie.Then1 → tie.Start
 one c = c .before .before
 
 abbrev two : tie.Then2 → tie.Start
 two c = c .before .before .before
+
+abbrev three : tie.Else2 → tie.Start
+three c = c .before .before .before
 
 put-requires : tie.Need-put-requires
 put-requires c κs = let s = one (c .before .before) in
@@ -52,24 +55,29 @@ digit-of-requires-2 c κs = search needs
 
 -- a number of three digits
 module _ (c : tie.Else2) where
+  abbrev n : ℕ
+  n = three c .args .n
+
   abbrev first : List ℕ
-  first = digit (c .before .before .before .args .n / 100) ∷ []
+  first = digit (n / 100) ∷ []
 
   abbrev rest : List ℕ
-  rest = digit (c .before .before .before .args .n / 10) ∷ digit (c .before .before .before .args .n) ∷ []
+  rest = digit (n / 10) ∷ digit n ∷ []
 
-  large : let s = c .before .before .before in decimal (s .args .n) ≡ digit (s .args .n / 100) ∷ rest
-  large = three-digits (c .before .before .before .args .n) (omega arith)
+  large : decimal n ≡ digit (n / 100) ∷ rest
+  large = three-digits n (omega arith)
 
-  room : let s = c .before .before .before in HasRoom (s .args .out .now) (s .args .at) (digit (s .args .n / 100) ∷ rest)
-  room = rw large at (c .before .before .before .pre)
+  room : HasRoom (three c .args .out .now) (three c .args .at) (digit (n / 100) ∷ rest)
+  room = rw large at (three c .pre)
 
 put-requires-2 : tie.Need-put-requires-2
 put-requires-2 c κs = let r = room (c .before .before) in omega arith
 
 -- the hundreds are put
-hundreds : (c : tie.After-put2) → let e = c .before .before .before in let s = e .before .before .before in
-    Put (s .args .out .now) (s .args .at) (first e) (c .put2 .result) (c .put2 .last .0)
+abbrev large-one : tie.After-put2 → tie.Else2
+large-one c = c .before .before .before
+
+hundreds : (c : tie.After-put2) → let s = three (large-one c) in Put (s .args .out .now) (s .args .at) (first (large-one c)) (c .put2 .result) (c .put2 .last .0)
 hundreds c = rw (c .before .digit-of2 .ensures) at (c .put2 .ensures)
 
 abbrev first-put : tie.After-put-two-arg2 → tie.After-put2
@@ -78,7 +86,7 @@ first-put c = c .before .before .before
 put-two-requires-2 : tie.Need-put-two-requires-2
 put-two-requires-2 c κs =
     let p = first-put c in
-    let e = p .before .before .before in
+    let e = large-one p in
     room-behind (hundreds p) (rest e) (room e)
 
 same-length-3 : tie.Need-same-length-3
@@ -88,7 +96,7 @@ returns-3 : tie.Need-returns-3
 returns-3 c =
     let q = c .before .before in
     let p = first-put (q .before) in
-    let e = p .before .before .before in
+    let e = large-one p in
     rw (large e) (put-behind (hundreds p) (rest e) (room e) (q .put-two2 .ensures))
 
 pub put-decimal-spec : {M : Type 1} → statement M

@@ -6,13 +6,20 @@ use Rattle.casefile.proofs.Writing.{room-first, room-behind, put-behind
 use Rattle.casefile.proofs.texts.put_field.Statement.{statement}
 use Rattle.casefile.proofs.texts.put_field.Tie as tie
 
+-- the stages: the start, and the number put
+abbrev start : tie.After-put-decimal → tie.Start
+start c = c .before .before .before
+
+abbrev number : tie.After-put-arg → tie.After-put-decimal
+number c = c .before .before .before
+
 put-decimal-requires : tie.Need-put-decimal-requires
 put-decimal-requires c κs = let s = c .before .before in room-first (s .args .out .now) (s .args .at) (decimal (s .args .n)) (32 ∷ []) (s .pre)
 
 put-requires : tie.Need-put-requires
 put-requires c κs =
-    let p = c .before .before .before in
-    room-behind (p .put-decimal .ensures) (32 ∷ []) (p .before .before .before .pre)
+    let p = number c in
+    room-behind (p .put-decimal .ensures) (32 ∷ []) (start p .pre)
 
 same-length : tie.Need-same-length
 same-length c = search needs
@@ -20,8 +27,8 @@ same-length c = search needs
 returns : tie.Need-returns
 returns c =
     let q = c .before .before in
-    let p = q .before .before .before .before in
-    put-behind (p .put-decimal .ensures) (32 ∷ []) (p .before .before .before .pre) (q .put .ensures)
+    let p = number (q .before) in
+    put-behind (p .put-decimal .ensures) (32 ∷ []) (start p .pre) (q .put .ensures)
 
 pub put-field-spec : {M : Type 1} → statement M
 put-field-spec = tie.close (tie.spec put-decimal-requires put-requires same-length returns)

@@ -29,7 +29,10 @@ module _ (s : tie.Start) where
   whole : HasRoom (s .args .out .now) (s .args .at) (field (s .args .place) ++ rest)
   whole = rw (grouped (s .args .place) (s .args .code) (s .args .status)) at (s .pre)
 
--- the stages: the place, the number, the status
+-- the stages: the start, the place, the number, the status
+abbrev begun : tie.After-put-field → tie.Start
+begun c = c .before .before .before
+
 abbrev place : tie.After-put-field-arg2 → tie.After-put-field
 place c = c .before .before .before
 
@@ -43,19 +46,19 @@ put-field-requires : tie.Need-put-field-requires
 put-field-requires c κs = let s = c .before .before in room-first (s .args .out .now) (s .args .at) (field (s .args .place)) (rest s) (whole s)
 
 -- behind the place
-room : (c : tie.After-put-field) → HasRoom (c .put-field .last .0) (c .put-field .result) (rest (c .before .before .before))
-room c = let s = c .before .before .before in room-behind (c .put-field .ensures) (rest s) (whole s)
+room : (c : tie.After-put-field) → HasRoom (c .put-field .last .0) (c .put-field .result) (rest (begun c))
+room c = let s = begun c in room-behind (c .put-field .ensures) (rest s) (whole s)
 
 put-field-requires-2 : tie.Need-put-field-requires-2
 put-field-requires-2 c κs =
     let p = place c in
-    let s = p .before .before .before in
+    let s = begun p in
     room-first (p .put-field .last .0) (p .put-field .result) (field (s .args .code)) (ending s) (room p)
 
 -- behind the number
 module _ (c : tie.After-put-field2) where
   abbrev start : tie.Start
-  start = place (c .before) .before .before .before
+  start = begun (place (c .before))
 
   room-2 : HasRoom (c .put-field2 .last .0) (c .put-field2 .result) (ending start)
   room-2 = room-behind (c .put-field2 .ensures) (ending start) (room (place (c .before)))
