@@ -18,7 +18,7 @@ use Rattle.soda.proofs.Bools.{by-test, and-split, so-lt}
 use Rattle.soda.proofs.Sorting.{All, all-append}
 use Rattle.soda.proofs.Terms.{size-pos}
 use Rattle.soda.proofs.Words.{op-high, same-kind, encode-length, words-trans, compare-in-place}
-use Rattle.soda.proofs.Normal.{by-operands, operands-some, chain-cons, parts, parts-bin}
+use Rattle.soda.proofs.Normal.{by-operands, operands-some, chain-cons, normal-operands}
 use Rattle.soda.proofs.EqualForms.{normal-keeps, normal-is-normal}
 use Rattle.policy.specs.Words.{kind, sides}
 use Rattle.normal.specs.Private.{span, lead, operandOf, Operand, Chain, last, more}
@@ -171,7 +171,7 @@ operands-fine op (bin o φ ψ) f = by-test (sameOp op o)
 -- a term in normal form is the chain of its operands
 normal-chain : (op : Op) (φ : Term) → normalForm φ ≡ φ → chain op (operands op φ) ≡ φ
 normal-chain op = by-operands op (λ φ. normalForm φ ≡ φ → chain op (operands op φ) ≡ φ) (λ φ e n. rw e)
-    λ φ ψ h k n. ap (λ (χ : Term). chain op (operands op χ)) (sym n) ∙ ap (chain op) (parts-bin op φ ψ) ∙ n
+    λ φ ψ h k n. ap (λ (χ : Term). chain op (operands op χ)) (sym n) ∙ ap (chain op) (normal-operands op φ ψ) ∙ n
 
 chain-words : (op : Op) (l : List Term) (rest : List ℕ) → 0 < length l → All (Operand (opWord op)) l → Chain (opWord op) (encode (chain op l) ++ rest) l rest
 chain-words op [] rest h p = absurd (omega arith)
@@ -179,7 +179,7 @@ chain-words op (φ ∷ []) rest h p = last (p .0)
 chain-words op (φ ∷ ψ ∷ l) rest h p = rw append-assoc (more (p .0) (chain-words op (ψ ∷ l) rest (omega arith) (p .1)))
 
 -- the words of a normal form are a chain of any operator
-pub normal-words : (op : Op) (φ : Term) (rest : List ℕ) → So (fits φ) → Chain (opWord op) (encode (normalForm φ) ++ rest) (parts op φ) rest
+pub normal-words : (op : Op) (φ : Term) (rest : List ℕ) → So (fits φ) → Chain (opWord op) (encode (normalForm φ) ++ rest) (operands op (normalForm φ)) rest
 normal-words op φ rest f =
     let n = normalForm φ in
     subst (λ (χ : Term). Chain (opWord op) (encode χ ++ rest) (operands op n) rest) (normal-chain op n (normal-is-normal φ f))

@@ -11,11 +11,11 @@ use Rattle.soda.proofs.Lists.{from-drop, from-length}
 use Rattle.soda.specs.Lists.{from, merge}
 use Rattle.soda.specs.Terms.{Op, Term, everyone, role, Term.set as people, ¬ᵗ_, _⁺, bin, size}
 use Rattle.soda.specs.Words.{opKind, opWord, encode, fits, termLe}
-use Rattle.soda.specs.Normal.{chain, normalForm}
+use Rattle.soda.specs.Normal.{operands, chain, normalForm}
 use Rattle.soda.proofs.Bools.{and-split, so-lt}
 use Rattle.soda.proofs.Terms.{size-pos}
 use Rattle.soda.proofs.Words.{encode-length}
-use Rattle.soda.proofs.Normal.{parts, nf-merge}
+use Rattle.soda.proofs.Normal.{normal-is-merge}
 use Rattle.soda.proofs.EqualForms.{normal-keeps}
 use Rattle.policy.specs.Words.{kind, sides}
 use Rattle.normal.specs.Private.{Merging, Merged, Spelt, Written}
@@ -46,7 +46,7 @@ module _ (ws : List ℕ) (φ : Term) (rest : List ℕ) where
     pub isOp : getD ws 0 0 ≡ opWord op
     pub behind : drop 1 ws ≡ encode ψ ++ (encode χ ++ rest)
     pub long : size φ ≡ 1 + (size ψ + size χ)
-    pub normal : normalForm φ ≡ chain op (merge termLe (parts op ψ) (parts op χ))
+    pub normal : normalForm φ ≡ chain op (merge termLe (operands op (normalForm ψ)) (operands op (normalForm χ)))
 
   data Sides : ℕ → Type 0 where
     none : None → Sides 0
@@ -71,7 +71,7 @@ sided (bin op φ ψ) rest f =
       isOp = refl;
       behind = append-assoc (encode φ) (encode ψ) rest;
       long = refl;
-      normal = nf-merge op φ ψ;
+      normal = normal-is-merge op φ ψ;
     }))
 
 module _ {ws : List ℕ} {k : ℕ} (s : Spelt ws k) where
@@ -205,8 +205,8 @@ module _ (ws out : List ℕ) (s : Spelt ws (length out)) (r : Two ws (s .term) (
           ∙ ap (λ (v : List ℕ). new ++ v) (drop-of-length-le (drop (1 + n) out) j)
           ∙ append-nil new in
           record {
-            left = parts (r .op) (r .ψ);
-            right = parts (r .op) (r .χ);
+            left = operands (r .op) (normalForm (r .ψ));
+            right = operands (r .op) (normalForm (r .χ));
             rest = drop (size (r .χ)) (from (1 + n) out);
             ahead = rw (r .isOp, a) (rw append-nil at (normal-words (r .op) (r .ψ) [] (r .fit)));
             behind = rw (r .isOp, l, b, two-done .1) (normal-words (r .op) (r .χ) (drop (size (r .χ)) (from (1 + n) out)) (r .fit2));

@@ -5,12 +5,12 @@ use mathlib.Core.List.{List, [], _∷_, _++_, map, map-append, append-assoc}
 use Prim.Native.Nat.{_<_}
 use native.Mathlib.Omega.{arith}
 use lib.ListN.{length, length-append}
-use Rattle.soda.specs.Lists.{insert, ascending, merge}
+use Rattle.soda.specs.Lists.{insert, ascending}
 use Rattle.soda.specs.Terms.{Op, either, both, together, apart, Term, everyone, role, set, ¬ᵗ_, _⁺, bin, sameOp}
 use Rattle.soda.specs.Words.{fits, termLe}
 use Rattle.soda.specs.Steps.{Turn, exchange, regroup, back, Step, here, in-not, in-plus, in-left, in-right, Steps}
 use Rattle.soda.specs.Normal.{operands, chain, sorted, normalForm}
-use Rattle.soda.specs.EqualForms.{SameFormIsSteps, OperandsAscend, NormalIsChain}
+use Rattle.soda.specs.EqualForms.{SameFormIsSteps, OperandsAscend, NormalIsChain, ByOperands, OperandsSome, ChainCons, NormalOperands, NormalIsMerge}
 use Rattle.soda.proofs.Bools.{never, by-test, and-split, and-join}
 use Rattle.soda.proofs.Sorting.{All, all-append, insert-length, merge-sort}
 use Rattle.soda.proofs.Sorting.{sort-length, sort-all, sort-ascending, sort-sort, sort-comm, sort-left, sort-right}
@@ -32,14 +32,14 @@ sameOp-eq apart = elim [ either ↦ never | both ↦ never | together ↦ never 
 
 -- ── operands ──
 -- a term that does not begin with the operator is one operand
-abbrev pub Plain : Op → Term → Type 0
+abbrev Plain : Op → Term → Type 0
 Plain op φ = operands op φ ≡ φ ∷ []
 
 operands-same : (op : Op) (φ ψ : Term) → operands op (bin op φ ψ) ≡ operands op φ ++ operands op ψ
 operands-same op φ ψ = rw (sameOp-refl op)
 
 -- Induction along a chain: a term is one operand, or two terms under the operator.
-pub by-operands : (op : Op) (P : Term → Type 0) → ((φ : Term) → Plain op φ → P φ) → ((φ ψ : Term) → P φ → P ψ → P (bin op φ ψ)) → (φ : Term) → P φ
+pub by-operands : ByOperands
 by-operands op P one two everyone = one everyone refl
 by-operands op P one two (role r) = one (role r) refl
 by-operands op P one two (set m) = one (set m) refl
@@ -49,7 +49,7 @@ by-operands op P one two (bin o φ ψ) = by-test (sameOp op o)
     (λ e. subst (λ (p : Op). P (bin p φ ψ)) (sameOp-eq op o e) (two φ ψ (by-operands op P one two φ) (by-operands op P one two ψ)))
     λ e. one (bin o φ ψ) (rw e)
 
-pub operands-some : (op : Op) (φ : Term) → 0 < length (operands op φ)
+pub operands-some : OperandsSome
 operands-some op = by-operands op (λ φ. 0 < length (operands op φ)) (λ φ e. rw e (omega arith))
     λ φ ψ h k. rw (operands-same op φ ψ) (omega (arith, length-append (operands op φ) (operands op ψ)))
 
@@ -60,7 +60,7 @@ operands-plain : (op : Op) (φ : Term) → All (Plain op) (operands op φ)
 operands-plain op = by-operands op (λ φ. All (Plain op) (operands op φ)) (λ φ e. subst (λ (l : List Term). All (Plain op) l) (sym e) (e, tt))
     λ φ ψ h k. subst (λ (l : List Term). All (Plain op) l) (sym (operands-same op φ ψ)) (all-append (Plain op) (operands op φ) (operands op ψ) h k)
 
-pub chain-cons : (op : Op) (φ : Term) (l : List Term) → 0 < length l → chain op (φ ∷ l) ≡ bin op φ (chain op l)
+pub chain-cons : ChainCons
 chain-cons op φ [] h = absurd (omega arith)
 chain-cons op φ (ψ ∷ l) h = refl
 
@@ -101,7 +101,7 @@ chain-sorted op (φ ∷ ψ ∷ l) = steps-trans (steps-right op φ (chain-sorted
     (steps-trans (steps-eq (sym (chain-cons op φ (sorted (ψ ∷ l)) (omega (arith, sort-length termLe (ψ ∷ l)))))) (chain-insert op φ (sorted (ψ ∷ l))))
 
 -- the operands of a term's normal form
-abbrev pub parts : Op → Term → List Term
+abbrev parts : Op → Term → List Term
 parts op φ = operands op (normalForm φ)
 
 pub steps-nf : (φ : Term) → Steps φ (normalForm φ)
@@ -127,14 +127,14 @@ operands-fit op = by-operands op (λ φ. Fits φ → All Fits (operands op φ)) 
 parts-fit : (op : Op) (φ : Term) → Fits φ → All Fits (parts op φ)
 parts-fit op φ f = operands-fit op (normalForm φ) (sym (steps-fits (steps-nf φ)) ∙ f)
 
-pub parts-bin : (op : Op) (φ ψ : Term) → parts op (bin op φ ψ) ≡ sorted (parts op φ ++ parts op ψ)
-parts-bin op φ ψ =
+pub normal-operands : NormalOperands
+normal-operands op φ ψ =
     let l = parts op φ ++ parts op ψ in
     operands-chain op (sorted l) (omega (arith, sort-length termLe l, operands-two op (normalForm φ) (normalForm ψ)))
     (sort-all termLe (Plain op) l (all-append (Plain op) (parts op φ) (parts op ψ) (operands-plain op (normalForm φ)) (operands-plain op (normalForm ψ))))
 
 parts-sorted : (op : Op) (φ ψ : Term) → sorted (parts op (bin op φ ψ)) ≡ sorted (parts op φ ++ parts op ψ)
-parts-sorted op φ ψ = ap sorted (parts-bin op φ ψ) ∙ sort-sort termLe term-total (parts op φ ++ parts op ψ)
+parts-sorted op φ ψ = ap sorted (normal-operands op φ ψ) ∙ sort-sort termLe term-total (parts op φ ++ parts op ψ)
 
 -- sorting forgets the order, as terms that fit are equal where their words are
 sorted-comm : (l m : List Term) → All Fits l → All Fits m → sorted (l ++ m) ≡ sorted (m ++ l)
@@ -202,10 +202,10 @@ plain-nf op (bin o φ ψ) e = by-test (sameOp op o)
 -- the two sides' operands need only be merged
 pub operands-ascend : OperandsAscend
 operands-ascend op = by-operands op (λ φ. So (ascending termLe (parts op φ))) (λ φ e. rw (plain-nf op φ e) refl)
-    λ φ ψ h k. rw (parts-bin op φ ψ) (sort-ascending termLe term-total (parts op φ ++ parts op ψ))
+    λ φ ψ h k. rw (normal-operands op φ ψ) (sort-ascending termLe term-total (parts op φ ++ parts op ψ))
 
-pub nf-merge : (op : Op) (φ ψ : Term) → normalForm (bin op φ ψ) ≡ chain op (merge termLe (parts op φ) (parts op ψ))
-nf-merge op φ ψ = ap (chain op) (sym (merge-sort termLe term-total term-trans (parts op φ) (parts op ψ) (operands-ascend op φ) (operands-ascend op ψ)))
+pub normal-is-merge : NormalIsMerge
+normal-is-merge op φ ψ = ap (chain op) (sym (merge-sort termLe term-total term-trans (parts op φ) (parts op ψ) (operands-ascend op φ) (operands-ascend op ψ)))
 
 -- the normal forms of a term's operands are the operands of its normal form, in some order
 nfs-fit : (l : List Term) → All Fits l → All Fits (map normalForm l)

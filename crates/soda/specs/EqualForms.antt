@@ -2,9 +2,10 @@
 use mathlib.Core.Path.{_≡_}
 use mathlib.Core.Logic.{_↔_}
 use mathlib.Core.Bool.{Bool, So}
-use mathlib.Core.List.{List, _++_, map}
-use Prim.Native.Nat.{ℕ, _≤_}
-use Rattle.soda.specs.Lists.{count, ascending}
+use mathlib.Core.List.{List, [], _∷_, _++_, map}
+use Prim.Native.Nat.{ℕ, _≤_, _<_}
+use lib.ListN.{length}
+use Rattle.soda.specs.Lists.{count, ascending, merge}
 use Rattle.soda.specs.Terms.{Op, Term, bin, unit, wellFormed, size}
 use Rattle.soda.specs.Words.{fits, declared, encode, termLe}
 use Rattle.soda.specs.Tables.{judge}
@@ -50,6 +51,30 @@ NormalIsChain =
 -- Its operands ascend by their words.
 abbrev pub OperandsAscend : Type 0
 OperandsAscend = (op : Op) (φ : Term) → So (ascending termLe (operands op (normalForm φ)))
+
+-- Induction along a chain: a term is one operand, or two terms under the operator.
+abbrev pub ByOperands : Type 1
+ByOperands =
+    (op : Op) (P : Term → Type 0) → ((φ : Term) → operands op φ ≡ φ ∷ [] → P φ) → ((φ ψ : Term) → P φ → P ψ → P (bin op φ ψ))
+    → (φ : Term) → P φ
+
+-- A term has an operand. A chain with one more in front is the operator over that one and the chain.
+abbrev pub OperandsSome : Type 0
+OperandsSome = (op : Op) (φ : Term) → 0 < length (operands op φ)
+
+abbrev pub ChainCons : Type 0
+ChainCons = (op : Op) (φ : Term) (l : List Term) → 0 < length l → chain op (φ ∷ l) ≡ bin op φ (chain op l)
+
+-- The operands of a normal form are those of both sides' normal forms, sorted; each side's ascend, so it is enough to merge them.
+abbrev pub NormalOperands : Type 0
+NormalOperands =
+    (op : Op) (φ ψ : Term)
+    → operands op (normalForm (bin op φ ψ)) ≡ sorted (operands op (normalForm φ) ++ operands op (normalForm ψ))
+
+abbrev pub NormalIsMerge : Type 0
+NormalIsMerge =
+    (op : Op) (φ ψ : Term)
+    → normalForm (bin op φ ψ) ≡ chain op (merge termLe (operands op (normalForm φ)) (operands op (normalForm ψ)))
 
 -- Related terms are satisfied by the same lists of actions, and the same lists are possible.
 abbrev pub StepsKeepJudgement : Type 0
