@@ -13,6 +13,7 @@ use Rattle.policy.specs.Refusals.{Refusals, _gives_, code}
 use Rattle.policy.specs.Words.{wordOk, decode}
 use Rattle.policy.specs.declared.PolicyRead.{PolicyRead}
 use Rattle.policy.specs.declared.PolicyRead.the-variants.{Accepted, Refused}
+use Rattle.policy.specs.declared.Survey.{Survey}
 
 -- users and roles are each 1 to 16
 abbrev pub countOk : ℕ → Bool
@@ -66,3 +67,10 @@ metIn (some φ) u h = metBits φ u h
 
 unfoldable pub metOf : List ℕ → ℕ → ℕ → ℕ
 metOf ws u h = cond (lengthOk (length ws)) (metIn (decode ws) u h) 0
+
+-- What a call on a monitor asks of its policy: whether none of 5 and 1 to 4 applies, and then its unit words and those that a user meets.
+abbrev pub surveyIn : Bool → ℕ → ℕ → Survey
+surveyIn accepted units met = record { accepted = accepted; units = cond accepted units 0; met = cond accepted met 0 }
+
+unfoldable pub surveyOf : ℕ → ℕ → List ℕ → ℕ → ℕ → Survey
+surveyOf users roles ws u h = surveyIn (eqb (code (refusals users roles ws)) ACCEPTED) (unitsOf (decode ws)) (metOf ws u h)

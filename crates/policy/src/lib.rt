@@ -10,6 +10,7 @@ mod words;
 pub use reading::met;
 pub use reading::number_of;
 pub use reading::read;
+pub use reading::survey_of;
 pub use shapes::shape_of;
 pub use words::kind_of;
 pub use words::sides_of;
@@ -18,6 +19,14 @@ pub use words::sides_of;
 pub enum PolicyRead {
     Accepted { words: usize, units: u32 },
     Refused(u8),
+}
+
+// What a call on a monitor asks of its policy: whether it is accepted, and then the words that begin unit terms and those of them that
+// a user meets; zero if it is refused.
+pub struct Survey {
+    pub accepted: bool,
+    pub units: u32,
+    pub met: u32,
 }
 
 // What the monitor needs of a policy: its length, the words that go by each row of the table, and where right sides begin.

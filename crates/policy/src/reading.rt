@@ -1,7 +1,8 @@
 // Reading a policy, and the unit terms that a user meets.
 ghost use mathlib.Core.Path.{_≡_};
-ghost use Rattle.policy.specs.Reading.{numberOf, readPolicy, metOf};
+ghost use Rattle.policy.specs.Reading.{numberOf, readPolicy, metOf, surveyOf};
 use super::PolicyRead;
+use super::Survey;
 use super::codes;
 use super::reader::scan;
 use super::terms::analyse;
@@ -54,4 +55,35 @@ pub fn met(words: &[u32], user: u8, held: u16) -> u32
     }
     let t = analyse(words, user, held);
     t.noted
+}
+
+// A refused policy.
+const NO_SURVEY: Survey = Survey {
+    accepted: false,
+    units: 0,
+    met: 0,
+};
+
+// Whether a policy is accepted and, if so, its unit words and those that a user who holds these roles meets.
+pub fn survey_of(users: u8, roles: u8, words: &[u32], user: u8, held: u16) -> Survey
+    ensures { λ r. ⌜ r ≡ surveyOf users roles (now (words .entry)) user held ⌝ }
+{
+    if !counts_ok(users, roles) {
+        return NO_SURVEY;
+    }
+    if !length_ok(words.len()) {
+        return NO_SURVEY;
+    }
+    if !words_ok(users, roles, words) {
+        return NO_SURVEY;
+    }
+    let term = analyse(words, user, held);
+    if !term.formed {
+        return NO_SURVEY;
+    }
+    Survey {
+        accepted: true,
+        units: term.units,
+        met: term.noted,
+    }
 }
