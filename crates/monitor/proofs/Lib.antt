@@ -5,6 +5,7 @@ pub mod Loops
 -- Refusals, well-formed monitors and events read.
 pub mod Opening
 pub mod Formed
+pub mod Checks
 pub mod Reading
 -- What an event alters.
 pub mod Effects

@@ -9,17 +9,34 @@ use Rattle.soda.specs.Tables.{satisfied, possible}
 use Rattle.soda.specs.declared.Action.{Action}
 use Rattle.policy.specs.Refusals.{code}
 use Rattle.policy.specs.Words.{decode}
-use Rattle.policy.specs.Reading.{lengthOk}
+use Rattle.policy.specs.Reading.{lengthOk, metOf}
 use Rattle.workspace.specs.Workspace.{filled, isFillable}
 use Rattle.monitor.specs.declared.Configuration.{Configuration}
 use Rattle.monitor.specs.declared.Instance.{Instance}
 use Rattle.monitor.specs.declared.Monitor.{Monitor}
 use Rattle.monitor.specs.declared.Event.{Event}
 use Rattle.monitor.specs.declared.Event.the-variants.{Acts, Grants, Revokes, Closes, Malformed}
-use Rattle.monitor.specs.Configurations.{configurationOk}
+use Rattle.monitor.specs.declared.instances.Check.{Check}
+use Rattle.monitor.specs.declared.monitors.Admission.{Admission}
+use Rattle.monitor.specs.Configurations.{held, configurationOk}
+use Rattle.monitor.specs.Monitors.{admission}
 use Rattle.monitor.specs.Instances.{policyOf, takenOf, term, notedFor, tried, withAction, instanceOk}
 use Rattle.monitor.specs.Events.{ownRefusals, advanced, applied, workspaceAfter, Outcome}
 use Rattle.monitor.specs.Statuses.{letterOf}
+
+-- what is noted of user u
+abbrev pub Meets : Configuration → Instance → ℕ → ℕ → Type 0
+Meets c i u met = met ≡ metOf (policyOf i) u (held c u)
+
+-- whether a monitor's parts are well formed, which `ok` says, and then what user u meets
+pub record Checked (c : Configuration) (i : Instance) (u : ℕ) (ok : Bool) (r : Check) : Type 0 where
+  pub is-ok : r .«well_formed» ≡ ok
+  pub meets : So ok → Meets c i u (r .met)
+
+-- 12, 15 or 0, and for 0 what user u meets
+pub record Admits (m : Monitor) (n u : ℕ) (r : Admission) : Type 0 where
+  pub number : r .code ≡ code (admission m n)
+  pub meets : r .code ≡ 0 → Meets (m .configuration) (m .instance) u (r .met)
 
 -- the workspace can be filled for the taken actions
 pub record Fillable (i : Instance) (before : List ℕ) : Type 0 where
@@ -45,6 +62,22 @@ Entered c (Grants u r) = (u < c .users) × (r < c .roles)
 Entered c (Revokes u r) = (u < c .users) × (r < c .roles)
 Entered c Closes = Unit
 Entered c Malformed = ⊥
+
+-- the user who acts; 0 if the event is no action
+abbrev pub actor : Event → ℕ
+actor (Acts u a) = u
+actor (Grants u r) = 0
+actor (Revokes u r) = 0
+actor Closes = 0
+actor Malformed = 0
+
+-- what the user of an action meets
+abbrev pub Noting : Monitor → Event → ℕ → Type 0
+Noting m (Acts u a) met = Meets (m .configuration) (m .instance) u met
+Noting m (Grants u r) met = Unit
+Noting m (Revokes u r) met = Unit
+Noting m Closes met = Unit
+Noting m Malformed met = Unit
 
 -- the status of an instance: its number and letter, and the workspace that speaks of the taken actions
 pub record Stated (i : Instance) (number letter : ℕ) (before after : List ℕ) : Type 0 where

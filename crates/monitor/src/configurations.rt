@@ -2,7 +2,7 @@
 ghost use mathlib.Core.Path.{_≡_};
 ghost use Prim.Native.Nat.{_≤_, _<_};
 ghost use lib.ListN.{length};
-ghost use Rattle.monitor.specs.Configurations.{configurationOf, withGrant, withoutGrant, configurationOk};
+ghost use Rattle.monitor.specs.Configurations.{held, configurationOf, withGrant, withoutGrant, configurationOk};
 use super::Configuration;
 use super::lists::count_ok;
 use super::lists::padded_rows;
@@ -23,6 +23,14 @@ impl Configuration {
             users: users as u16,
             roles: roles as u16,
         }
+    }
+
+    // The roles that a user holds; none for a user without a row.
+    pub(crate) fn held(self, user: u8) -> u16
+        ensures { λ r. ⌜ r ≡ held self user ⌝ }
+    {
+        let rows = self.user_roles;
+        if user < 16 { rows[user as usize] } else { 0 }
     }
 
     // The user holds the role.

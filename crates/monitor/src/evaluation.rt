@@ -52,7 +52,8 @@ impl Monitor {
     pub fn status(self, workspace: &mut [u32]) -> Status
         ensures { λ r. ⌜ record { code = statusNumber r; letter = letter r; workspace = now (workspace .exit) } ≡ statusOf self (now (workspace .entry)) ⌝ }
     {
-        let refusal = self.admit(workspace.len());
+        let admission = self.admit(workspace.len(), 0);
+        let refusal = admission.code;
         if refusal != codes::ACCEPTED {
             return Status::Refused(refusal);
         }

@@ -4,12 +4,23 @@ ghost use Prim.Native.Nat.{_≤_, _<_};
 ghost use lib.ListN.{length, take, drop};
 ghost use Rattle.soda.specs.Lists.{all};
 ghost use Rattle.monitor.specs.Instances.{isClosed, instanceOf, notedFor, withAction, asClosed, isIdle, actionOk, isTidy, instanceOk};
+ghost use Rattle.monitor.specs.Private.{Checked};
 use super::Configuration;
 use super::Instance;
 use super::lists::padded_words;
 use super::lists::zero_words;
-use policy::PolicyRead;
 use soda::Action;
+
+// Whether a monitor is well formed (number 15 where not) and, if so, the unit terms that a user meets.
+pub(crate) struct Check {
+    pub well_formed: bool,
+    pub met: u32,
+}
+
+pub(crate) const NOT_WELL_FORMED: Check = Check {
+    well_formed: false,
+    met: 0,
+};
 
 // Whether an unused place is all zero.
 fn is_idle(a: Action) -> bool
@@ -80,13 +91,12 @@ impl Instance {
 
     // What is noted of an action by this user: the unit terms that the user meets by the roles held in the configuration.
     pub(crate) fn noted(self, configuration: Configuration, user: u8) -> Action
-        requires { ⌜ (self .words ≤ 31) × (user < 16) ⌝ }
+        requires { ⌜ self .words ≤ 31 ⌝ }
         ensures { λ r. ⌜ r ≡ notedFor configuration self user ⌝ }
     {
         let policy = self.policy;
-        let rows = configuration.user_roles;
         let words = self.words as usize;
-        let held = rows[user as usize];
+        let held = configuration.held(user);
         Action::new(user, policy::met(&policy[..words], user, held))
     }
 
@@ -123,31 +133,41 @@ impl Instance {
         idle_actions(actions, self.taken as usize)
     }
 
-    // Whether the policy would be accepted, the taken actions are as they must be, and what is unused is zero.
-    pub(crate) fn is_well_formed(self, configuration: Configuration) -> bool
+    // Whether the policy would be accepted, the taken actions are as they must be, and what is unused is zero; and what a user meets.
+    pub(crate) fn check(self, configuration: Configuration, user: u8) -> Check
         requires { ⌜ (configuration .users ≤ 16) × (configuration .roles ≤ 16) ⌝ }
-        ensures { λ r. ⌜ r ≡ instanceOk configuration self ⌝ }
+        ensures { λ r. ⌜ Checked configuration self user (instanceOk configuration self) r ⌝ }
     {
         let words = self.words as usize;
         if 31 < words {
-            return false;
+            return NOT_WELL_FORMED;
         }
         let policy = self.policy;
-        let read = policy::read(
+        let survey = policy::survey_of(
             configuration.users as u8,
             configuration.roles as u8,
             &policy[..words],
+            user,
+            configuration.held(user),
         );
-        let PolicyRead::Accepted { words: _, units } = read else {
-            return false;
-        };
+        if !survey.accepted {
+            return NOT_WELL_FORMED;
+        }
         if 12 < self.taken {
-            return false;
+            return NOT_WELL_FORMED;
         }
         let actions = self.actions;
-        if !actions_ok(configuration.users, units, actions, self.taken as usize) {
-            return false;
+        if !actions_ok(
+            configuration.users,
+            survey.units,
+            actions,
+            self.taken as usize,
+        ) {
+            return NOT_WELL_FORMED;
         }
-        self.is_tidy()
+        Check {
+            well_formed: self.is_tidy(),
+            met: survey.met,
+        }
     }
 }

@@ -1,15 +1,23 @@
 // The monitor: the blank one, opening one, whether one is well formed, and what every call on one asks first.
 ghost use mathlib.Core.Path.{_≡_};
-ghost use Rattle.policy.specs.Refusals.{code};
-ghost use Rattle.monitor.specs.Monitors.{given, blank, opening, wellFormed, admission};
+ghost use Rattle.monitor.specs.Monitors.{given, blank, opening, wellFormed};
+ghost use Rattle.monitor.specs.Private.{Checked, Admits};
 use super::Answer;
 use super::Configuration;
 use super::Instance;
 use super::Monitor;
+use super::instances::Check;
+use super::instances::NOT_WELL_FORMED;
 use super::lists::rows_ok;
 use policy::PolicyRead;
 use policy::codes;
 use soda::Action;
+
+// What every call on a monitor asks first: 12, 15 or 0 and, if it is 0, the unit terms that a user meets.
+pub(crate) struct Admission {
+    pub code: u8,
+    pub met: u32,
+}
 
 impl Monitor {
     // All zero: what a refused opening hands back (document 01: the blank sheet).
@@ -54,29 +62,39 @@ impl Monitor {
         }
     }
 
-    // Whether the monitor is well formed: number 15 where not.
-    pub fn is_well_formed(self) -> bool
-        ensures { λ r. ⌜ r ≡ wellFormed self ⌝ }
+    // Whether the monitor is well formed, and what a user meets.
+    fn check(self, user: u8) -> Check
+        ensures { λ r. ⌜ Checked (self .configuration) (self .instance) user (wellFormed self) r ⌝ }
     {
         let configuration = self.configuration;
         if !configuration.is_well_formed() {
-            return false;
+            return NOT_WELL_FORMED;
         }
         let instance = self.instance;
-        instance.is_well_formed(configuration)
+        instance.check(configuration, user)
     }
 
-    // 12 or 15 where one applies, the workspace having so many words; else 0.
-    pub(crate) fn admit(self, length: usize) -> u8
-        ensures { λ r. ⌜ r ≡ code (admission self length) ⌝ }
+    // 12 or 15 where one applies, the workspace having so many words; else 0, and what a user meets.
+    pub(crate) fn admit(self, length: usize, user: u8) -> Admission
+        ensures { λ r. ⌜ Admits self length user r ⌝ }
     {
         if length < 8192 {
-            return codes::WORKSPACE;
+            return Admission {
+                code: codes::WORKSPACE,
+                met: 0,
+            };
         }
-        if !self.is_well_formed() {
-            return codes::MONITOR;
+        let check = self.check(user);
+        if !check.well_formed {
+            return Admission {
+                code: codes::MONITOR,
+                met: 0,
+            };
         }
-        codes::ACCEPTED
+        Admission {
+            code: codes::ACCEPTED,
+            met: check.met,
+        }
     }
 }
 

@@ -4,7 +4,7 @@ ghost use Prim.Native.Nat.{_<_};
 ghost use Rattle.policy.specs.Refusals.{code};
 ghost use Rattle.monitor.specs.declared.Event.the-variants.{Closes};
 ghost use Rattle.monitor.specs.Events.{entry, outcome};
-ghost use Rattle.monitor.specs.Private.{Admitted, Trial, Acted, Entered, ownOutcome, monitorOutcome};
+ghost use Rattle.monitor.specs.Private.{Admitted, Trial, Acted, Entered, actor, Meets, Noting, ownOutcome, monitorOutcome};
 use super::Answer;
 use super::Configuration;
 use super::Event;
@@ -13,6 +13,7 @@ use super::Monitor;
 use super::evaluation::evaluate;
 use super::events::read_event;
 use policy::codes;
+use soda::Action;
 
 // 10 or 7 where one applies; else 0.
 fn enter(instance: Instance, event: Event) -> u8
@@ -30,23 +31,37 @@ fn enter(instance: Instance, event: Event) -> u8
     }
 }
 
+// The user who acts; 0 if the event is no action.
+fn actor_of(event: Event) -> u8
+    ensures { λ r. ⌜ r ≡ actor event ⌝ }
+{
+    match event {
+        Event::Acts(user, _) => user,
+        Event::Grants(_, _) => 0,
+        Event::Revokes(_, _) => 0,
+        Event::Closes => 0,
+        Event::Malformed => 0,
+    }
+}
+
 // An instance with one more action, and whether its actions are possible.
 struct Tried {
     instance: Instance,
     possible: bool,
 }
 
-// Tries an action by this user: the workspace speaks of the actions with it.
+// Tries an action by this user, who meets these unit terms: the workspace speaks of the actions with it.
 fn try_action(
     configuration: Configuration,
     instance: Instance,
     user: u8,
+    met: u32,
     workspace: &mut [u32],
 ) -> Tried
-    requires { ⌜ Admitted configuration instance (now workspace) × (instance .taken < 12) × (user < configuration .users) ⌝ }
+    requires { ⌜ Admitted configuration instance (now workspace) × (instance .taken < 12) × (user < configuration .users) × Meets configuration instance user met ⌝ }
     ensures { λ r. ⌜ Trial configuration instance user (r .instance) (r .possible) (now (workspace .entry)) (now (workspace .exit)) ⌝ }
 {
-    let tried = instance.with_action(instance.noted(configuration, user));
+    let tried = instance.with_action(Action::new(user, met));
     let evaluation = evaluate(tried, workspace);
     Tried {
         instance: tried,
@@ -60,9 +75,15 @@ struct Moved {
     instance: Instance,
 }
 
-// An action by a declared user.
-fn act(configuration: Configuration, instance: Instance, user: u8, workspace: &mut [u32]) -> Moved
-    requires { ⌜ Admitted configuration instance (now workspace) × (user < configuration .users) ⌝ }
+// An action by a declared user, who meets these unit terms.
+fn act(
+    configuration: Configuration,
+    instance: Instance,
+    user: u8,
+    met: u32,
+    workspace: &mut [u32],
+) -> Moved
+    requires { ⌜ Admitted configuration instance (now workspace) × (user < configuration .users) × Meets configuration instance user met ⌝ }
     ensures { λ r. ⌜ Acted configuration instance user (now (workspace .entry)) (record { code = r .code; instance = r .instance; workspace = now (workspace .exit) }) ⌝ }
 {
     if 12 <= instance.taken {
@@ -71,7 +92,7 @@ fn act(configuration: Configuration, instance: Instance, user: u8, workspace: &m
             instance,
         };
     }
-    let tried = try_action(configuration, instance, user, workspace);
+    let tried = try_action(configuration, instance, user, met, workspace);
     if !tried.possible {
         return Moved {
             code: codes::NOT_POSSIBLE,
@@ -116,16 +137,16 @@ fn answer(code: u8, configuration: Configuration, instance: Instance) -> Answer
     }
 }
 
-// An event to which none of 12, 15, 10 and 7 applies.
-fn perform(monitor: Monitor, event: Event, workspace: &mut [u32]) -> Answer
-    requires { ⌜ Admitted (monitor .configuration) (monitor .instance) (now workspace) × Entered (monitor .configuration) event ⌝ }
+// An event to which none of 12, 15, 10 and 7 applies; its user, if it is an action, meets these unit terms.
+fn perform(monitor: Monitor, event: Event, met: u32, workspace: &mut [u32]) -> Answer
+    requires { ⌜ Admitted (monitor .configuration) (monitor .instance) (now workspace) × Entered (monitor .configuration) event × Noting monitor event met ⌝ }
     ensures { λ r. ⌜ record { code = r .code; monitor = r .monitor; workspace = now (workspace .exit) } ≡ monitorOutcome monitor event (now (workspace .entry)) ⌝ }
 {
     let configuration = monitor.configuration;
     let instance = monitor.instance;
     match event {
         Event::Acts(user, _) => {
-            let moved = act(configuration, instance, user, workspace);
+            let moved = act(configuration, instance, user, met, workspace);
             let next = moved.instance;
             answer(moved.code, configuration, next)
         }
@@ -153,15 +174,16 @@ impl Monitor {
     pub fn event(self, word: u32, workspace: &mut [u32]) -> Answer
         ensures { λ r. ⌜ record { code = r .code; monitor = r .monitor; workspace = now (workspace .exit) } ≡ outcome self word (now (workspace .entry)) ⌝ }
     {
-        let refusal = self.admit(workspace.len());
+        let configuration = self.configuration;
+        let event = read_event(configuration.users, configuration.roles, word);
+        let admission = self.admit(workspace.len(), actor_of(event));
+        let refusal = admission.code;
         if refusal != codes::ACCEPTED {
             return Answer {
                 code: refusal,
                 monitor: self,
             };
         }
-        let configuration = self.configuration;
-        let event = read_event(configuration.users, configuration.roles, word);
         let instance = self.instance;
         let refusal = enter(instance, event);
         if refusal != codes::ACCEPTED {
@@ -170,6 +192,6 @@ impl Monitor {
                 monitor: self,
             };
         }
-        perform(self, event, workspace)
+        perform(self, event, admission.met, workspace)
     }
 }

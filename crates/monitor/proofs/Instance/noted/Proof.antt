@@ -7,44 +7,33 @@ use lib.Seq.{length-take-le}
 use Rattle.monitor.proofs.Instance.noted.Statement.{statement}
 use Rattle.monitor.proofs.Instance.noted.Tie as tie
 
+abbrev start : tie.After-held → tie.Start
+start c = c .before .before .before
+
 policy-length : (s : tie.Start) → length (s .args .self .policy) ≡ 31
 policy-length s = search needs
 
-cast-words : tie.Need-cast-words
-cast-words c = search needs
-
-mul-held : tie.Need-mul-held
-mul-held c = search needs
-
-array-read-held : tie.Need-array-read-held
-array-read-held c = search needs
-
 array-share-prefix-policy : tie.Need-array-share-prefix-policy
-array-share-prefix-policy c = omega (arith, policy-length (c .before .before .before))
+array-share-prefix-policy c = omega (arith, policy-length (start c), start c .pre)
 
 slice-aggregate-met : tie.Need-slice-aggregate-met
 slice-aggregate-met c =
-    let s = c .before .before .before .before in
-    sym (length-take-le (s .args .self .words) (s .args .self .policy) (omega (arith, policy-length s)))
-
-met-requires : tie.Need-met-requires
-met-requires c κs = search needs
-
-new-requires : tie.Need-new-requires
-new-requires c κs = search needs
+    let s = start (c .before) in
+    sym (length-take-le (s .args .self .words) (s .args .self .policy) (omega (arith, policy-length s, s .pre)))
 
 returns : tie.Need-returns
-returns c = rw (c .before .met .ensures) at (c .new .ensures)
+returns c =
+    let m = c .before in
+    rw (m .met .ensures, m .before .before .held .ensures) at (c .new .ensures)
 
 pub noted-spec : {M : Type 1} → statement M
 noted-spec =
     tie.close
     (tie.spec
-    cast-words
-    mul-held
-    array-read-held
+    (λ c. search needs)
+    (λ c κs. search needs)
     array-share-prefix-policy
     slice-aggregate-met
-    met-requires
-    new-requires
+    (λ c κs. search needs)
+    (λ c κs. search needs)
     returns)

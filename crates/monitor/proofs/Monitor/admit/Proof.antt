@@ -1,4 +1,5 @@
 -- Each return is the list's first test that applies.
+use native.Mathlib.Omega.{arith}
 use borrow.Author.Needs.{needs}
 use borrow.Author.Tests.{lt-ltb, le-ltb}
 use Rattle.monitor.specs.Monitors.{admission}
@@ -8,22 +9,28 @@ use Rattle.monitor.proofs.Monitor.admit.Tie as tie
 
 returns : tie.Need-returns
 unfolding admission
-returns c = simp (lt-ltb (c .before .args .length) 8192 (c .if1 .taken))
+returns c = record { number = simp (lt-ltb (c .before .args .length) 8192 (c .if1 .taken)); meets = λ z. absurd (omega arith) }
 
-is-well-formed-requires : tie.Need-is-well-formed-requires
-is-well-formed-requires c κs = search needs
+-- the test before the check
+abbrev long : tie.After-struct-known → tie.Else1
+long c = c .before .before
 
 returns-2 : tie.Need-returns-2
 unfolding admission
 returns-2 c =
-    let e = c .before .before in
-    simp (le-ltb (e .before .args .length) 8192 (e .if1 .left), failed (c .before .is-well-formed .ensures) (c .if2 .taken))
+    let e = long (c .before) in
+    record {
+      number = simp (le-ltb (e .before .args .length) 8192 (e .if1 .left), failed (c .before .before .check .ensures .is-ok) (c .if2 .taken));
+      meets = λ z. absurd (omega arith);
+    }
 
 returns-3 : tie.Need-returns-3
 unfolding admission
 returns-3 c =
-    let e = c .before .before in
-    simp (le-ltb (e .before .args .length) 8192 (e .if1 .left), passed (c .before .is-well-formed .ensures) (c .if2 .left))
+    let e = long (c .before) in
+    let k = c .before .before .check .ensures in
+    let w = passed (k .is-ok) (c .if2 .left) in
+    record { number = simp (le-ltb (e .before .args .length) 8192 (e .if1 .left), w); meets = λ z. k .meets w }
 
 pub admit-spec : {M : Type 1} → statement M
-admit-spec = tie.close (tie.spec returns is-well-formed-requires returns-2 returns-3)
+admit-spec = tie.close (tie.spec returns (λ c κs. search needs) returns-2 returns-3)

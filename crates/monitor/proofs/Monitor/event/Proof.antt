@@ -1,52 +1,60 @@
 -- The checks in order: each return is a refusal's, or what performing the event gave.
-use mathlib.Core.Path.{_≡_, sym, ap, _∙_}
+use mathlib.Core.Path.{_≡_, sym, subst, ap, _∙_}
+use Prim.Native.Nat.{ℕ}
 use borrow.Author.Needs.{needs}
 use lib.ListN.{length}
 use Rattle.policy.specs.Refusals.{code}
 use Rattle.monitor.specs.declared.Event.{Event}
 use Rattle.monitor.specs.Monitors.{admission}
 use Rattle.monitor.specs.Events.{eventIn, entry}
-use Rattle.monitor.specs.Private.{monitorOutcome}
+use Rattle.monitor.specs.Private.{Meets, Noting, monitorOutcome}
 use Rattle.monitor.proofs.Formed.{formed, is-configuration-formed, is-instance-formed}
+use Rattle.monitor.proofs.Checks.{noting}
 use Rattle.monitor.proofs.Reading.{declared, entered}
 use Rattle.monitor.proofs.Order.{admits, enters, not-admitted, not-entered, performed}
 use Rattle.monitor.proofs.Monitor.event.Statement.{statement}
 use Rattle.monitor.proofs.Monitor.event.Tie as tie
 
-abbrev start : tie.After-admit → tie.Start
-start c = c .before .before
+abbrev begin : tie.After-read-event → tie.Start
+begin c = c .before .before .before
 
-admit-requires : tie.Need-admit-requires
-admit-requires c κs = search needs
+abbrev read : tie.After-admit → tie.After-read-event
+read c = c .before .before
 
+-- a refusal by 12 or 15
 returns : tie.Need-returns
 returns c =
     let k = c .before in
-    let a = start k .args in
-    rw (k .admit .ensures) (not-admitted (a .self) (a .word) (a .workspace .now) (λ z. c .if1 .taken (k .admit .ensures ∙ z)))
-
-read-event-requires : tie.Need-read-event-requires
-read-event-requires c κs = search needs
-
-enter-requires : tie.Need-enter-requires
-enter-requires c κs = search needs
+    let a = begin (read k) .args in
+    rw (k .admit .ensures .number) (not-admitted (a .self) (a .word) (a .workspace .now) (λ z. c .if1 .taken (k .admit .ensures .number ∙ z)))
 
 -- nothing is refused so far, and the event's own checks
 module _ (c : tie.After-enter) where
   abbrev clear : tie.Else1
-  clear = c .before .before .before .before
+  clear = c .before .before
 
-  abbrev read : tie.After-read-event
-  read = c .before .before
+  abbrev admitted : tie.After-admit
+  admitted = clear .before
 
   abbrev begun : tie.Start
-  begun = start (clear .before)
+  begun = begin (read admitted)
 
   accepted : code (admission (begun .args .self) (length (begun .args .workspace .now))) ≡ 0
-  accepted = sym (clear .before .admit .ensures) ∙ clear .if1 .left
+  accepted = sym (admitted .admit .ensures .number) ∙ clear .if1 .left
+
+  is-read : read admitted .read-event .result ≡ eventIn (begun .args .self) (begun .args .word)
+  is-read = read admitted .read-event .ensures
 
   number : c .enter .result ≡ code (entry (begun .args .self .instance) (eventIn (begun .args .self) (begun .args .word)))
-  number = c .enter .ensures ∙ ap (λ (e : Event). code (entry (begun .args .self .instance) e)) (read .read-event .ensures)
+  number = c .enter .ensures ∙ ap (λ (e : Event). code (entry (begun .args .self .instance) e)) is-read
+
+  -- what the event's user meets
+  meets : Noting (begun .args .self) (read admitted .read-event .result) (admitted .admit .result .met)
+  meets =
+      let m = begun .args .self in
+      let met : ℕ = admitted .admit .result .met in
+      noting m (read admitted .read-event .result) met
+      (subst (λ (u : ℕ). Meets (m .configuration) (m .instance) u met) (admitted .before .actor-of .ensures) (admitted .admit .ensures .meets (clear .if1 .left)))
 
 returns-2 : tie.Need-returns-2
 returns-2 c =
@@ -68,11 +76,9 @@ perform-requires c κs =
         configuration-ok = is-configuration-formed d (f .in-configuration);
         instance-ok = is-instance-formed d (a .self .instance) (f .in-instance);
       },
-      rw (read k .read-event .ensures) (entered d v (declared (d .users) (d .roles) (a .word)) (enters (a .self .instance) v (sym (number k) ∙ e .if2 .left) .1)),
+      rw (is-read k) (entered d v (declared (d .users) (d .roles) (a .word)) (enters (a .self .instance) v (sym (number k) ∙ e .if2 .left) .1)),
+      meets k,
     )
-
-same-length : tie.Need-same-length
-same-length c = search needs
 
 returns-3 : tie.Need-returns-3
 returns-3 c =
@@ -80,18 +86,19 @@ returns-3 c =
     let e = p .before .before in
     let k = e .before in
     let a = begun k .args in
-    p .perform .ensures ∙ ap (λ (v : Event). monitorOutcome (a .self) v (a .workspace .now)) (read k .read-event .ensures)
+    p .perform .ensures ∙ ap (λ (v : Event). monitorOutcome (a .self) v (a .workspace .now)) (is-read k)
     ∙ performed (a .self) (a .word) (a .workspace .now) (accepted k) (sym (number k) ∙ e .if2 .left)
 
 pub event-spec : {M : Type 1} → statement M
 event-spec =
     tie.close
     (tie.spec
-    admit-requires
+    (λ c κs. search needs)
+    (λ c κs. search needs)
+    (λ c κs. search needs)
     returns
-    read-event-requires
-    enter-requires
+    (λ c κs. search needs)
     returns-2
     perform-requires
-    same-length
+    (λ c. search needs)
     returns-3)

@@ -20,11 +20,11 @@ admit-requires c κs = search needs
 
 returns : tie.Need-returns
 unfolding statusOf
-returns c = rw (← c .before .admit .ensures, ne-eqb (c .before .admit .result) 0 (c .if1 .taken))
+returns c = rw (← c .before .admit .ensures .number, ne-eqb (c .before .admit .result .code) 0 (c .if1 .taken))
 
 -- nothing is refused
 accepted : (e : tie.Else1) → code (admission (start (e .before) .args .self) (length (start (e .before) .args .workspace .now))) ≡ 0
-accepted e = sym (e .before .admit .ensures) ∙ e .if1 .left
+accepted e = sym (e .before .admit .ensures .number) ∙ e .if1 .left
 
 status-of-requires : tie.Need-status-of-requires
 status-of-requires c κs =

@@ -12,7 +12,7 @@ try-action-requires : tie.Need-try-action-requires
 try-action-requires c κs =
     let e = c .before in
     let s = e .before .before .before in
-    (s .pre .0, e .if1 .left, s .pre .1)
+    (s .pre .0, e .if1 .left, s .pre .1, s .pre .2)
 
 -- the trial's place, and the test before it
 abbrev tried : tie.After-struct-known2 → tie.After-try-action

@@ -5,7 +5,7 @@ use native.Mathlib.Omega.{arith}
 use borrow.Author.Needs.{needs}
 use Rattle.monitor.specs.declared.Event.{Event}
 use Rattle.monitor.specs.declared.Event.the-variants.{Acts, Grants, Revokes, Closes, Malformed}
-use Rattle.monitor.specs.Private.{Entered, monitorOutcome}
+use Rattle.monitor.specs.Private.{Entered, Noting, monitorOutcome}
 use Rattle.monitor.proofs.Formed.{configuration-formed, users-most, roles-most}
 use Rattle.monitor.proofs.Order.{lifted}
 use Rattle.monitor.proofs.steps.perform.Statement.{statement}
@@ -18,6 +18,9 @@ module _ (i : tie.After-instance) where
 
   names : (e : Event) → start .args .event ≡ e → Entered (start .args .monitor .configuration) e
   names e is = subst (Entered (start .args .monitor .configuration)) is (start .pre .1)
+
+  noting : (e : Event) → start .args .event ≡ e → Noting (start .args .monitor) e (start .args .met)
+  noting e is = subst (λ (x : Event). Noting (start .args .monitor) x (start .args .met)) is (start .pre .2)
 
   -- declared users and roles have a place in the rows
   in-rows : (u r : ℕ) → (u < start .args .monitor .configuration .users) × (r < start .args .monitor .configuration .roles) → (u < 16) × (r < 16)
@@ -33,7 +36,8 @@ act-requires : tie.Need-act-requires
 act-requires c κs =
     let v = c .before .before in
     let i = v .before .before in
-    (start i .pre .0, names i (Acts (v .event .given .0 .0) (v .event .given .0 .1 .0)) (v .event .given .1))
+    let e = Acts (v .event .given .0 .0) (v .event .given .0 .1 .0) in
+    (start i .pre .0, names i e (v .event .given .1), noting i e (v .event .given .1))
 
 answer-requires : tie.Need-answer-requires
 answer-requires c κs = search needs

@@ -1,7 +1,7 @@
 -- The tried instance has the noted action behind the taken ones, and the workspace can be filled for it.
 use mathlib.Core.Path.{_≡_, ap, _∙_}
 use mathlib.Core.List.{List}
-use Prim.Native.Nat.{_<_}
+use Prim.Native.Nat.{ℕ, _<_}
 use native.Mathlib.Omega.{arith}
 use borrow.Author.Needs.{needs}
 use lib.ListN.{length}
@@ -11,7 +11,7 @@ use Rattle.workspace.specs.Workspace.{filled}
 use Rattle.monitor.specs.declared.Instance.{Instance}
 use Rattle.monitor.specs.Instances.{term, takenOf, notedFor, withAction}
 use Rattle.monitor.proofs.Loops.{length-mapped}
-use Rattle.monitor.proofs.Formed.{ConfigurationFormed, InstanceFormed, configuration-formed, instance-formed, users-most}
+use Rattle.monitor.proofs.Formed.{ConfigurationFormed, InstanceFormed, configuration-formed, instance-formed}
 use Rattle.monitor.proofs.Fillable.{taken-more, fillable-more}
 use Rattle.monitor.proofs.steps.try_action.Statement.{statement}
 use Rattle.monitor.proofs.steps.try_action.Tie as tie
@@ -32,11 +32,6 @@ module _ (s : tie.Start) where
   abbrev own : Action
   own = notedFor (s .args .configuration) (s .args .instance) (s .args .user)
 
-noted-requires : tie.Need-noted-requires
-noted-requires c κs =
-    let s = c .before in
-    (well s .words-most, omega (arith, s .pre .2, users-most (s .args .configuration) (over s)))
-
 with-action-requires : tie.Need-with-action-requires
 with-action-requires c κs = search needs
 
@@ -46,7 +41,9 @@ module _ (c : tie.After-with-action) where
   start = c .before .before .before
 
   tried-is : c .with-action .result ≡ withAction (start .args .instance) (own start)
-  tried-is = c .with-action .ensures ∙ ap (withAction (start .args .instance)) (c .before .noted .ensures)
+  tried-is =
+      c .with-action .ensures
+      ∙ ap (withAction (start .args .instance)) (c .before .new .ensures ∙ ap (λ (met : ℕ). record { user = start .args .user; met = met }) (start .pre .3))
 
 evaluate-requires : tie.Need-evaluate-requires
 evaluate-requires c κs =
@@ -75,4 +72,4 @@ returns c =
 
 pub try-action-spec : {M : Type 1} → statement M
 try-action-spec =
-    tie.close (tie.spec noted-requires with-action-requires evaluate-requires same-length returns)
+    tie.close (tie.spec (λ c κs. search needs) with-action-requires evaluate-requires same-length returns)
