@@ -3,7 +3,7 @@ use mathlib.Core.Path.{_≡_, refl, sym, _∙_, ap, ap₂, subst}
 use mathlib.Core.Bool.{Bool, true, false, _&&_, _||_, and-true, and-assoc, or-false}
 use mathlib.Core.List.{List, [], _∷_, _++_, map, Perm}
 use mathlib.Core.Logic.{_⊎_, inl, inr}
-use Prim.Native.Nat.{ℕ, zero, suc, _+_, _/_, _^_, _≤_, _<_}
+use Prim.Native.Nat.{ℕ, zero, suc, _+_, _*_, _/_, _^_, _≤_, _<_}
 use native.Mathlib.Nat.{eq-or-lt-of-le, pow-suc, lt-of-lt-of-le}
 use native.Mathlib.Omega.{arith}
 use lib.Bits.{bitAnd, bitOr}
@@ -20,13 +20,14 @@ use Rattle.soda.proofs.Bits.{number-lt, bit-number}
 use Rattle.soda.proofs.Splits.{any-append}
 use Rattle.policy.specs.Shapes.{rightSides}
 use Rattle.workspace.specs.Workspace.{range, select, judged, rowOf}
-use Rattle.workspace.specs.Private.{place, Unpacked, Next, AlikePlaces, Twin, Suited, Acting, Noted, RowIs, RowOf, StoredIs, StoredOf, Tables, tables, Long, Entry, Known, Cleared, Kept, Entered, Added, AddedAll}
+use Rattle.workspace.specs.Private.{place, Unpacked, noteOf, metIn, twinIn, usersIn, leftAt, rightAt, noteAt, Next, AlikePlaces, Twin, Suited, Acting, Noted, RowIs, RowOf, StoredIs, StoredOf, Tables, tables, Long, Entry, Known, Cleared, Kept, Entered, Added, AddedAll}
 use Rattle.soda.specs.declared.Action.{Action}
 use Rattle.workspace.specs.declared.masks.Masks.{Masks}
 use Rattle.workspace.specs.declared.tables.Stored.{Stored}
 use Rattle.workspace.proofs.Digits.{lt-or-le, bit-and, bit-or, bit-shr, bit-power, bit-ext}
 use Rattle.workspace.proofs.Select.{select-next}
 use Rattle.workspace.proofs.Exchange.{twin-perm, judged-twin, row-twin}
+use Rattle.workspace.proofs.Table.{stored, left-here, right-here, note-here, elsewhere, met-noted, twin-noted, users-noted}
 
 -- ── a row as a word of the workspace ──
 pub range-length : (i n : ℕ) → length (range i n) ≡ n
@@ -56,14 +57,11 @@ row-number e φ l s row right w short r c h = bit-ext 32 w (number digits) h fit
     at i b (inr k) = r .past e i k b ∙ sym (List·getD-eq-default digits false (omega (arith, long)))
 
 -- ── one set entered ──
-before : {x s : ℕ} → x < s → (l : List ℕ) (v : ℕ) → getD (set l s v) x 0 ≡ getD l x 0
-before {x} {s} h l v = getD-set-other l s x v 0 (λ q. omega arith)
-
 -- what is stored of a twin's row
-pub stored-twin : (m : Masks) (ops left right users workspace : List ℕ) (met s twin : ℕ) → twin < s
-    → StoredOf m ops left right users workspace met s twin
-    (record { left = getD left twin 0; right = getD right twin 0; satisfied = getD workspace twin 0; possible = getD workspace (4096 + twin) 0 })
-stored-twin m ops left right users workspace met s twin h φ l u f g w n p = record {
+pub stored-twin : (m : Masks) (ops sets workspace : List ℕ) (met s twin : ℕ) → twin < s
+    → StoredOf m ops sets workspace met s twin
+    (record { left = leftAt sets twin; right = rightAt sets twin; satisfied = getD workspace twin 0; possible = getD workspace (4096 + twin) 0 })
+stored-twin m ops sets workspace met s twin h φ l u f g w n p = record {
   sides = λ who acting.
       let b = g twin h in
       record {
@@ -77,10 +75,10 @@ stored-twin m ops left right users workspace met s twin h φ l u f g w n p = rec
 }
 
 -- and of a row from its parts
-pub stored-row : (m : Masks) (ops left right users workspace : List ℕ) (met s twin row row-right low high : ℕ) → RowOf m ops left right users met s row row-right
+pub stored-row : (m : Masks) (ops sets workspace : List ℕ) (met s twin row row-right low high : ℕ) → RowOf m ops sets met s row row-right
     → Unpacked false row low → Unpacked true row high → low < 2 ^ 32 → high < 2 ^ 32
-    → StoredOf m ops left right users workspace met s twin (record { left = row / 2 ^ 1; right = row-right; satisfied = low; possible = high })
-stored-row m ops left right users workspace met s twin row row-right low high r is-low is-high low-fits high-fits φ l u f g w n p =
+    → StoredOf m ops sets workspace met s twin (record { left = row / 2 ^ 1; right = row-right; satisfied = low; possible = high })
+stored-row m ops sets workspace met s twin row row-right low high r is-low is-high low-fits high-fits φ l u f g w n p =
     let here = r φ l u f g n in
     record {
       sides = λ who acting. record {
@@ -94,16 +92,18 @@ stored-row m ops left right users workspace met s twin row row-right low high r 
     }
 
 module _ (m : Masks) (ops : List ℕ) (s who met twin : ℕ) (t : Tables) (row : Stored)
-    (h : s < 4096) (n : Long (s + 1) t) (r : StoredOf m ops (t .left) (t .right) (t .users) (t .workspace) met s twin row) where
+    (h : s < 4096) (met-fits : met < 4294967296) (twin-fits : twin < 65536) (n : Long (s + 1) t) (r : StoredOf m ops (t .sets) (t .workspace) met s twin row) where
   abbrev low : ℕ
   low = row .satisfied
 
   abbrev high : ℕ
   high = row .possible
 
+  abbrev note : ℕ
+  note = noteOf who twin met
+
   abbrev pub after : Tables
-  after = tables (set (t .left) s (row .left)) (set (t .right) s (row .right)) (set (t .users) s who) (set (t .met) s met) (set (t .twins) s twin)
-      (set (set (t .workspace) s low) (4096 + s) high)
+  after = tables (stored (t .sets) s (row .left) (row .right) note) (set (set (t .workspace) s low) (4096 + s) high)
 
   pub entered : Entered m ops s who met twin t after
   entered = record {
@@ -117,30 +117,41 @@ module _ (m : Masks) (ops : List ℕ) (s who met twin : ℕ) (t : Tables) (row :
       le : (x : ℕ) → x < s + 1 → x ≤ s
       le x b = omega arith
 
+      room : 3 * s + 2 < length (t .sets)
+      room = omega (arith, n .sets)
+
+      here : noteAt (after .sets) s ≡ note
+      here = note-here (t .sets) s (row .left) (row .right) note room
+
+      earlier : (k : ℕ) → k < 3 * s → getD (after .sets) k 0 ≡ getD (t .sets) k 0
+      earlier k b = elsewhere (t .sets) s (row .left) (row .right) note k b
+
       entry : (φ : Term) (l : List Action) → Suited φ m ops → s < 2 ^ length l → Acting (select s l) who → Noted (select s l) met → Perm (select twin l) (select s l)
           → Known φ l t s → (x : ℕ) → (x ≡ s) ⊎ (x < s) → Entry φ l after x
       entry φ l u f a k p g x (inl q) = subst (Entry φ l after) (sym q) (record {
         sides = rw (
-          getD-set-same (t .left) s (row .left) 0 (omega (arith, n .left)),
-          getD-set-same (t .right) s (row .right) 0 (omega (arith, n .right)),
-          getD-set-same (t .users) s who 0 (omega (arith, n .users)),
-        ) (here .sides who a);
-        noted = rw (getD-set-same (t .met) s met 0 (omega (arith, n .met))) k;
-        twin = rw (getD-set-same (t .twins) s twin 0 (omega (arith, n .twins))) p;
+          left-here (t .sets) s (row .left) (row .right) note room,
+          right-here (t .sets) s (row .left) (row .right) note room,
+          here,
+          users-noted who twin met met-fits twin-fits,
+        ) (is .sides who a);
+        noted = rw (here, met-noted who twin met met-fits) k;
+        twin = rw (here, twin-noted who twin met met-fits twin-fits) p;
         satisfied = getD-set-other (set (t .workspace) s low) (4096 + s) s high 0 (λ z. omega arith) ∙ getD-set-same (t .workspace) s low 0 (omega (arith, n .workspace))
-            ∙ here .satisfied;
-        possible = getD-set-same (set (t .workspace) s low) (4096 + s) high 0 (omega (arith, n .workspace, length-set (t .workspace) s low)) ∙ here .possible;
+            ∙ is .satisfied;
+        possible = getD-set-same (set (t .workspace) s low) (4096 + s) high 0 (omega (arith, n .workspace, length-set (t .workspace) s low)) ∙ is .possible;
       })
         where
-          here : StoredIs φ l s row
-          here = r φ l u f (λ y b. g y b .sides) (λ y b. (g y b .satisfied, g y b .possible)) k p
+          is : StoredIs φ l s row
+          is = r φ l u f (λ y b. g y b .sides) (λ y b. (g y b .satisfied, g y b .possible)) k p
       entry φ l u f a k p g x (inr q) =
           let b = g x q in
           record {
-            sides = rw (before q (t .left) (row .left), before q (t .right) (row .right), before q (t .users) who) (b .sides);
-            noted = rw (before q (t .met) met) (b .noted);
-            twin = rw (before q (t .twins) twin) (b .twin);
-            satisfied = getD-set-other (set (t .workspace) s low) (4096 + s) x high 0 (λ z. omega arith) ∙ before q (t .workspace) low ∙ b .satisfied;
+            sides = rw (earlier (3 * x) (omega arith), earlier (3 * x + 1) (omega arith), earlier (3 * x + 2) (omega arith)) (b .sides);
+            noted = rw (earlier (3 * x + 2) (omega arith)) (b .noted);
+            twin = rw (earlier (3 * x + 2) (omega arith)) (b .twin);
+            satisfied = getD-set-other (set (t .workspace) s low) (4096 + s) x high 0 (λ z. omega arith)
+                ∙ getD-set-other (t .workspace) s x low 0 (λ z. omega arith) ∙ b .satisfied;
             possible = getD-set-other (set (t .workspace) s low) (4096 + s) (4096 + x) high 0 (λ z. omega arith)
                 ∙ getD-set-other (t .workspace) s (4096 + x) low 0 (λ z. omega arith) ∙ b .possible;
           }
@@ -184,41 +195,22 @@ eqb-swap m n = same-test (eqb m n) (eqb n m) (λ e. eq-so n m (sym (so-eq m n e)
 
 -- the tables keep their lengths
 pub record Same (t t′ : Tables) : Type 0 where
-  pub left : length (t′ .left) ≡ length (t .left)
-  pub right : length (t′ .right) ≡ length (t .right)
-  pub users : length (t′ .users) ≡ length (t .users)
-  pub met : length (t′ .met) ≡ length (t .met)
-  pub twins : length (t′ .twins) ≡ length (t .twins)
+  pub sets : length (t′ .sets) ≡ length (t .sets)
   pub workspace : length (t′ .workspace) ≡ length (t .workspace)
 
 pub same-refl : (t : Tables) → Same t t
-same-refl t = record { left = refl; right = refl; users = refl; met = refl; twins = refl; workspace = refl }
+same-refl t = record { sets = refl; workspace = refl }
+
+pub same-trans : {t t′ t″ : Tables} → Same t t′ → Same t′ t″ → Same t t″
+same-trans p q = record { sets = q .sets ∙ p .sets; workspace = q .workspace ∙ p .workspace }
 
 -- tables of the same lengths have a place for as many sets or fewer
 pub long-same : {k n : ℕ} {t t′ : Tables} → k ≤ n → Long n t → Same t t′ → Long k t′
-long-same h n s = record {
-  left = omega (arith, n .left, s .left);
-  right = omega (arith, n .right, s .right);
-  users = omega (arith, n .users, s .users);
-  met = omega (arith, n .met, s .met);
-  twins = omega (arith, n .twins, s .twins);
-  workspace = omega (arith, n .workspace, s .workspace);
-}
+long-same h n s = record { sets = omega (arith, n .sets, s .sets); workspace = omega (arith, n .workspace, s .workspace) }
 
--- new tables of n places, with a workspace
-pub long-blank : {j : ℕ} (n : ℕ) {workspace : List ℕ} → j ≤ n → 8192 ≤ length workspace
-    → Long j (tables (replicate n 0) (replicate n 0) (replicate n 0) (replicate n 0) (replicate n 0) workspace)
-long-blank n h w = let b : length {A = ℕ} (replicate n 0) ≡ n = length-replicate n 0 in record {
-  left = omega arith;
-  right = omega arith;
-  users = omega arith;
-  met = omega arith;
-  twins = omega arith;
-  workspace = w;
-}
-
-pub same-trans : {t t′ t″ : Tables} → Same t t′ → Same t′ t″ → Same t t″
-same-trans p q = record { left = q .left ∙ p .left; right = q .right ∙ p .right; users = q .users ∙ p .users; met = q .met ∙ p .met; twins = q .twins ∙ p .twins; workspace = q .workspace ∙ p .workspace }
+-- a new table with a place for every set of n actions, and a workspace
+pub long-blank : {k : ℕ} (n : ℕ) {workspace : List ℕ} → k ≤ n → 8192 ≤ length workspace → Long (2 ^ k) (tables (replicate (3 * 2 ^ n) 0) workspace)
+long-blank {k} n h w = record { sets = omega (arith, length-replicate {A = ℕ} (3 * 2 ^ n) 0, pow-mono {i = k} h); workspace = w }
 
 -- where the loop over the sets t of the actions before place j is
 pub record Adding (m : Masks) (ops : List ℕ) (j : ℕ) (a : Action) (alike : ℕ) (before after : Tables) (user top t : ℕ) : Type 0 where
@@ -248,9 +240,9 @@ module _ (m : Masks) (ops : List ℕ) (j : ℕ) (a : Action) (alike : ℕ) (T : 
     pub add-below : j < 12 → top + t < 4096
     add-below b = omega (arith, add-room, pow-mono {i = j + 1} {j = 12} (omega arith))
 
-    pub add-turn : (T″ : Tables) (twin : ℕ) → Same T′ T″ → Twin alike top t (getD (T′ .twins) t 0) twin
-        → Entered m ops (top + t) (bitOr (getD (T′ .users) t 0) user) (bitAnd (getD (T′ .met) t 0) (a .met)) twin T′ T″ → Adding m ops j a alike T T″ user top (t + 1)
-    add-turn T″ twin s w e = let z : top + t + 1 ≡ top + (t + 1) = omega arith in record {
+    pub add-turn : (T″ : Tables) (who met old twin : ℕ) → who ≡ usersIn (noteAt (T′ .sets) t) → met ≡ metIn (noteAt (T′ .sets) t) → old ≡ twinIn (noteAt (T′ .sets) t)
+        → Same T′ T″ → Twin alike top t old twin → Entered m ops (top + t) (bitOr who user) (bitAnd met (a .met)) twin T′ T″ → Adding m ops j a alike T T″ user top (t + 1)
+    add-turn T″ who met old twin is-who is-met is-old s w e = let z : top + t + 1 ≡ top + (t + 1) = omega arith in record {
       is-user = g .is-user;
       is-top = g .is-top;
       bound = omega arith;
@@ -276,19 +268,19 @@ module _ (m : Masks) (ops : List ℕ) (j : ℕ) (a : Action) (alike : ℕ) (T : 
 
             alike-set : Perm (select twin l) (select (top + t) l)
             alike-set = subst (λ n. Perm (select twin l) (select (n + t) l)) (sym (g .is-top))
-                (twin-perm l j t (getD (T′ .twins) t 0) alike twin b (subst (λ n. t < n) (g .is-top) h) s (before t (omega arith) .twin)
-                (subst (λ n. Twin alike n t (getD (T′ .twins) t 0) twin) (g .is-top) w))
+                (twin-perm l j t old alike twin b (subst (λ n. t < n) (g .is-top) h) s (subst (λ n. Perm (select n l) (select t l)) (sym is-old) (before t (omega arith) .twin))
+                (subst (λ n. Twin alike n t old twin) (g .is-top) w))
 
-            acting : Acting (select (top + t) l) (bitOr (getD (T′ .users) t 0) user)
+            acting : Acting (select (top + t) l) (bitOr who user)
             acting v =
-                bit-or v (getD (T′ .users) t 0) user
-                ∙ ap₂ _||_ (before t (omega arith) .sides .acting v) (ap (bit v) (g .is-user) ∙ bit-power v (a .user) ∙ eqb-swap v (a .user) ∙ sym (or-false (eqb (a .user) v)))
+                bit-or v who user
+                ∙ ap₂ _||_ (ap (bit v) is-who ∙ before t (omega arith) .sides .acting v) (ap (bit v) (g .is-user) ∙ bit-power v (a .user) ∙ eqb-swap v (a .user) ∙ sym (or-false (eqb (a .user) v)))
                 ∙ sym (ap (acts (λ x. x .user) v) chosen ∙ any-append (λ (x : Action). eqb (x .user) v) (select t l) (a ∷ []))
 
-            noted : Noted (select (top + t) l) (bitAnd (getD (T′ .met) t 0) (a .met))
+            noted : Noted (select (top + t) l) (bitAnd met (a .met))
             noted i c =
-                bit-and i (getD (T′ .met) t 0) (a .met)
-                ∙ ap₂ _&&_ (before t (omega arith) .noted i c) (sym (and-true (bit i (a .met))))
+                bit-and i met (a .met)
+                ∙ ap₂ _&&_ (ap (bit i) is-met ∙ before t (omega arith) .noted i c) (sym (and-true (bit i (a .met))))
                 ∙ sym (ap (all (λ x. bit i (x .met))) chosen ∙ all-append (λ (x : Action). bit i (x .met)) (select t l) (a ∷ []))
 
   pub add-end : (t : ℕ) (T′ : Tables) → Adding m ops j a alike T T′ user top t → top ≤ t → Added m ops j a alike (2 ^ (j + 1)) T T′

@@ -19,7 +19,7 @@ use Rattle.soda.proofs.Tables.{empty-set}
 use Rattle.soda.proofs.Parts.{part-is-possible, satisfied-is-possible}
 use Rattle.policy.specs.Shapes.{isPlus, isOp, rightSides}
 use Rattle.workspace.specs.Workspace.{select, judged}
-use Rattle.workspace.specs.Private.{place, Packed, Part, Joined, matched, allowed, jointly, Chance, based, bySides, Finished, Suited, RowIs, Sides}
+use Rattle.workspace.specs.Private.{place, Packed, usersIn, leftAt, noteAt, Part, Joined, matchedApart, jointly, Chance, based, bySides, Finished, Suited, RowIs, SidesAt}
 use Rattle.soda.specs.declared.Action.{Action}
 use Rattle.workspace.specs.declared.masks.Masks.{Masks}
 use Rattle.workspace.proofs.Digits.{bit-or, bit-ones}
@@ -108,9 +108,9 @@ to-possible true ψ i l h = h
 to-possible false ψ i l h = satisfied-is-possible Action (λ a. a .user) (λ t k a. bit k (a .met)) ψ i l h
 
 -- all that the steps of a row with at least one action ensure
-pub record Stepped (φ : Term) (l : List Action) (m : Masks) (ops left rights users : List ℕ) (s ones met joint base row right : ℕ) : Type 0 where
+pub record Stepped (φ : Term) (l : List Action) (m : Masks) (ops sets : List ℕ) (s ones met joint base row right : ℕ) : Type 0 where
   pub suited : Suited φ m ops
-  pub known : (x : ℕ) → x < s → Sides φ (select x l) (getD left x 0) (getD rights x 0) (getD users x 0)
+  pub known : (x : ℕ) → x < s → SidesAt φ l sets x
   pub some : ones ≡ 0 → ⊥
   pub count : length (select s l) ≡ ones
   pub noted : (e : Bool) (i : ℕ) → i < 32 → bit (place e i) met ≡ all (metAt i) (select s l)
@@ -118,13 +118,13 @@ pub record Stepped (φ : Term) (l : List Action) (m : Masks) (ops left rights us
   pub two : ℕ
   pub parts : (Within one s × (one < s)) × (Within two s × (two < s))
   pub chance : ℕ
-  pub chances : Chance (m .joint) (getD left one 0) (getD left two 0) chance
-  pub joined : Joined (jointly chance (m .anyone) left rights users s) s joint
+  pub chances : Chance (m .joint) (leftAt sets one) (leftAt sets two) chance
+  pub joined : Joined (jointly chance (m .anyone) sets s) s joint
   pub is-base : (q : ℕ) → bit q base ≡ (based (m .units) (m .plus) met ones q || bit q joint)
   pub finished : Finished base (m .either) (m .both) (rightSides 0 φ) row right
 
-module _ {φ : Term} {l : List Action} {m : Masks} {ops left rights users : List ℕ} {s ones met joint base row right : ℕ}
-    (F : Stepped φ l m ops left rights users s ones met joint base row right) where
+module _ {φ : Term} {l : List Action} {m : Masks} {ops sets : List ℕ} {s ones met joint base row right : ℕ}
+    (F : Stepped φ l m ops sets s ones met joint base row right) where
   abbrev S : List Action
   S = select s l
 
@@ -133,8 +133,8 @@ module _ {φ : Term} {l : List Action} {m : Masks} {ops left rights users : List
   unmarked e i h n =
       let q = place e i in
       not-so (bit q joint) (λ o. let w = F .joined .found q o in
-      let k = and-split (bit q (F .chance)) (matched left rights s (w .0) q && allowed users (m .anyone) s (w .0) q) (w .2) .0 in
-      true≢false (sym (and-split (bit q (m .joint)) (bit (31 + i) (getD left (F .one) 0) && bit (31 + i) (getD left (F .two) 0)) (sym (F .chances e i h) ∙ k) .0) ∙ n))
+      let k = and-split (bit q (F .chance)) (matchedApart sets (m .anyone) s (w .0) q) (w .2) .0 in
+      true≢false (sym (and-split (bit q (m .joint)) (bit (31 + i) (leftAt sets (F .one)) && bit (31 + i) (leftAt sets (F .two))) (sym (F .chances e i h) ∙ k) .0) ∙ n))
 
   -- what is judged of the term that stands at a word
   judged-at : {i : ℕ} {ψ : Term} → Stood φ i ψ → (e : Bool) (k : List Action) → judged e φ k i ≡ judge e ψ i k
@@ -204,7 +204,7 @@ module _ {φ : Term} {l : List Action} {m : Masks} {ops left rights users : List
   module _ {i : ℕ} {op : Op} {α β : Term} (st : Stood φ i (bin op α β)) (e : Bool) where
     -- the part x at the left side, and the rest of the set at the right side
     part-bit : unitOp op ≡ false → (x : ℕ) → Part x s
-        → (matched left rights s x (place e i) && allowed users (m .anyone) s x (place e i)) ≡ parted (λ a. a .user) (judge e α (1 + i)) (judge e β (1 + i + size α)) op l s x
+        → (matchedApart sets (m .anyone) s x (place e i)) ≡ parted (λ a. a .user) (judge e α (1 + i)) (judge e β (1 + i + size α)) op l s x
     part-bit u x p =
         let here = is-joint op α β u in
         let a = F .known x (p .less) in
@@ -212,8 +212,8 @@ module _ {φ : Term} {l : List Action} {m : Masks} {ops left rights users : List
         let one = a .lefts e i (omega (arith, st .stands .inside, size-pos α, size-pos β)) ∙ judged-at (stood-left st) e (select x l) in
         let two = b .rights e i (below st e) (ap (λ t. isOp together t || isOp apart t) (stands-here (st .stands)) ∙ here)
         ∙ ap (judged e φ (select (s - x) l)) (right-side st) ∙ judged-at (stood-right st) e (select (s - x) l) in
-        let users-agree = agreed op α β u (eqb (bitAnd (getD users x 0) (getD users (s - x) 0)) 0) (bit (place e i) (m .anyone)) (select x l) (select (s - x) l)
-        (disjoint-masks (λ a. a .user) (getD users x 0) (getD users (s - x) 0) (select x l) (select (s - x) l) (a .acting) (b .acting))
+        let users-agree = agreed op α β u (eqb (bitAnd (usersIn (noteAt sets x)) (usersIn (noteAt sets (s - x)))) 0) (bit (place e i) (m .anyone)) (select x l) (select (s - x) l)
+        (disjoint-masks (λ a. a .user) (usersIn (noteAt sets x)) (usersIn (noteAt sets (s - x))) (select x l) (select (s - x) l) (a .acting) (b .acting))
         (mark st e (isOp together) (m .anyone) (F .suited .masked .anyone)) in
         (λ t. (one t && two t) && users-agree t)
         ∙ and-assoc (judge e α (1 + i) (select x l)) (judge e β (1 + i + size α) (select (s - x) l)) (agree (λ a. a .user) op (select x l) (select (s - x) l))
@@ -224,14 +224,14 @@ module _ {φ : Term} {l : List Action} {m : Masks} {ops left rights users : List
     unfolding table
     hopeful u x p o =
         F .chances e i (omega (arith, low st e))
-        ∙ and-join (bit (place e i) (m .joint)) (bit (31 + i) (getD left (F .one) 0) && bit (31 + i) (getD left (F .two) 0)) (joint-mark st e ∙ is-joint op α β u)
-        (and-join (bit (31 + i) (getD left (F .one) 0)) (bit (31 + i) (getD left (F .two) 0)) (at (F .one) (F .parts .0)) (at (F .two) (F .parts .1)))
+        ∙ and-join (bit (place e i) (m .joint)) (bit (31 + i) (leftAt sets (F .one)) && bit (31 + i) (leftAt sets (F .two))) (joint-mark st e ∙ is-joint op α β u)
+        (and-join (bit (31 + i) (leftAt sets (F .one))) (bit (31 + i) (leftAt sets (F .two))) (at (F .one) (F .parts .0)) (at (F .two) (F .parts .1)))
       where
         whole : So (judge e (bin op α β) i S)
         whole = ap (λ b. cond (b && (unit α && unit β)) (single e (metAt i) S) (join (λ a. a .user) op (judge e α (1 + i)) (judge e β (1 + i + size α)) S)) u
             ∙ joint-part (λ a. a .user) (judge e α (1 + i)) (judge e β (1 + i + size α)) op u l s x p o
 
-        at : (y : ℕ) → Within y s × (y < s) → So (bit (31 + i) (getD left y 0))
+        at : (y : ℕ) → Within y s × (y < s) → So (bit (31 + i) (leftAt sets y))
         at y w =
             F .known y (w .1) .possible i (below st e) ∙ judged-at st true (select y l)
             ∙ part-is-possible Action (λ a. a .user) (λ t k a. bit k (a .met)) (bin op α β) i S (select y l) (select (s - y) l) (cut l s y (w .0))
@@ -244,9 +244,9 @@ module _ {φ : Term} {l : List Action} {m : Masks} {ops left rights users : List
         (empty-set Action (λ a. a .user) (λ t k a. bit k (a .met)) e α (1 + i)) (empty-set Action (λ a. a .user) (λ t k a. bit k (a .met)) e β (1 + i + size α))
         l s (bit (place e i) joint)
         (λ o. let w = F .joined .found (place e i) o in
-        (w .0, w .1, sym (part-bit u (w .0) (w .1)) ∙ and-split (bit (place e i) (F .chance)) (matched left rights s (w .0) (place e i) && allowed users (m .anyone) s (w .0) (place e i)) (w .2) .1))
+        (w .0, w .1, sym (part-bit u (w .0) (w .1)) ∙ and-split (bit (place e i) (F .chance)) (matchedApart sets (m .anyone) s (w .0) (place e i)) (w .2) .1))
         (λ x p o. F .joined .each (place e i) x p
-        (and-join (bit (place e i) (F .chance)) (matched left rights s x (place e i) && allowed users (m .anyone) s x (place e i)) (hopeful u x p o) (part-bit u x p ∙ o)))
+        (and-join (bit (place e i) (F .chance)) (matchedApart sets (m .anyone) s x (place e i)) (hopeful u x p o) (part-bit u x p ∙ o)))
 
     -- the rule, for no unit term
     bin-rule : unit (bin op α β) ≡ false → (k : Bool) → bit (place e i) joint ≡ k

@@ -9,12 +9,11 @@ use Prim.Native.Nat.{ℕ, zero, suc, _+_, _-_, _^_, _≤_, _<_}
 use native.Mathlib.Omega.{arith}
 use lib.Bits.{bitAnd, bitOr, and-self, and-comm, and-zero-l}
 use lib.Dec.{eqb}
-use lib.ListN.{getD}
 use lib.Pow.{pow-pos}
 use Rattle.soda.specs.Bits.{bit}
 use Rattle.soda.proofs.Bools.{and-split, and-join, or-split, or-left, or-right, Order, less, same, more, order}
 use Rattle.soda.proofs.Bits.{bit-of-zero}
-use Rattle.workspace.specs.Private.{Part, Parted, Joined, Next, matched, allowed}
+use Rattle.workspace.specs.Private.{usersIn, leftAt, rightAt, noteAt, Part, Parted, Joined, Next, matched, allowed, matchedApart}
 use Rattle.workspace.proofs.Digits.{lt-or-le, bit-and, bit-or}
 use Rattle.workspace.proofs.Submask.{Within, Lowest, lowest, within-le, and-within, rest-within, walk, within-more, within-less}
 
@@ -129,30 +128,34 @@ module _ (f : ℕ → ℕ → Bool) (s t high : ℕ) (n : Next s t) (l : Lowest 
 
 -- ── a part and its rest ──
 -- the rows of a part and of its rest, both ways
-abbrev rows : List ℕ → List ℕ → ℕ → ℕ → ℕ
-rows left right s a = bitOr (bitAnd (getD left a 0) (getD right (s - a) 0)) (bitAnd (getD left (s - a) 0) (getD right a 0))
+abbrev rows : List ℕ → ℕ → ℕ → ℕ
+rows sets s a = bitOr (bitAnd (leftAt sets a) (rightAt sets (s - a))) (bitAnd (leftAt sets (s - a)) (rightAt sets a))
 
-module _ (left right : List ℕ) (s a : ℕ) (h : a ≤ s) where
+-- the users of the set x
+abbrev usersAt : List ℕ → ℕ → ℕ
+usersAt sets x = usersIn (noteAt sets x)
+
+module _ (sets : List ℕ) (s a : ℕ) (h : a ≤ s) where
   back : s - (s - a) ≡ a
   back = omega arith
 
-  pub rows-parted : Parted (matched left right s) s a (rows left right s a)
+  pub rows-parted : Parted (matched sets s) s a (rows sets s a)
   rows-parted q = simp (bit-or, bit-and, back)
 
   -- where users are compared
-  pub kept-parted : (users : List ℕ) (anyone x r : ℕ) → Parted (matched left right s) s a x
-      → r ≡ cond (eqb (bitAnd (getD users a 0) (getD users (s - a) 0)) 0) x (bitAnd x anyone) → Parted (λ x q. matched left right s x q && allowed users anyone s x q) s a r
-  kept-parted users anyone x r p e q =
-      ap (bit q) e ∙ chosen (eqb (bitAnd (getD users a 0) (getD users (s - a) 0)) 0) ∙ ap (λ b. b && allowed users anyone s a q) (p q)
-      ∙ and-or-distrib-right (matched left right s a q) (matched left right s (s - a) q) (allowed users anyone s a q)
-      ∙ ap (λ n. matched left right s a q && allowed users anyone s a q || matched left right s (s - a) q && (eqb n 0 || bit q anyone)) turned
+  pub kept-parted : (anyone x r : ℕ) → Parted (matched sets s) s a x
+      → r ≡ cond (eqb (bitAnd (usersAt sets a) (usersAt sets (s - a))) 0) x (bitAnd x anyone) → Parted (matchedApart sets anyone s) s a r
+  kept-parted anyone x r p e q =
+      ap (bit q) e ∙ chosen (eqb (bitAnd (usersAt sets a) (usersAt sets (s - a))) 0) ∙ ap (λ b. b && allowed sets anyone s a q) (p q)
+      ∙ and-or-distrib-right (matched sets s a q) (matched sets s (s - a) q) (allowed sets anyone s a q)
+      ∙ ap (λ n. matched sets s a q && allowed sets anyone s a q || matched sets s (s - a) q && (eqb n 0 || bit q anyone)) turned
     where
       chosen : (c : Bool) → bit q (cond c x (bitAnd x anyone)) ≡ (bit q x && (c || bit q anyone))
       chosen true = sym (and-true (bit q x))
       chosen false = bit-and q x anyone
 
-      turned : bitAnd (getD users a 0) (getD users (s - a) 0) ≡ bitAnd (getD users (s - a) 0) (getD users (s - (s - a)) 0)
-      turned = and-comm (getD users a 0) (getD users (s - a) 0) ∙ rw back
+      turned : bitAnd (usersAt sets a) (usersAt sets (s - a)) ≡ bitAnd (usersAt sets (s - a)) (usersAt sets (s - (s - a)))
+      turned = and-comm (usersAt sets a) (usersAt sets (s - a)) ∙ rw back
 
 -- ── what is asked for at the words of a mask only ──
 module _ (f : ℕ → ℕ → Bool) (s w : ℕ) where

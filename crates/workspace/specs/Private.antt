@@ -2,7 +2,7 @@
 use mathlib.Core.Path.{_≡_}
 use mathlib.Core.Bool.{Bool, true, false, So, _&&_, _||_, cond}
 use mathlib.Core.List.{List, Perm}
-use Prim.Native.Nat.{ℕ, suc, _+_, _-_, _*_, _^_, _≤_, _<_}
+use Prim.Native.Nat.{ℕ, suc, _+_, _-_, _*_, _/_, _%_, _^_, _≤_, _<_}
 use lib.Bits.{bitAnd, bitOr}
 use lib.Dec.{eqb}
 use lib.ListN.{length, getD}
@@ -40,6 +40,30 @@ pub record Masked (p : Shape) (m : Masks) : Type 0 where
   pub joint : Packed (bitOr (p .together) (p .apart)) (bitOr (p .together) (p .apart)) (m .joint)
   pub anyone : Packed (p .together) (p .together) (m .anyone)
 
+-- ── the table of sets ──
+-- a note packs what all actions of a set met, in digits 0 to 31, a twin in digits 32 to 47, and its users from digit 48 on
+abbrev pub noteOf : ℕ → ℕ → ℕ → ℕ
+noteOf users twin met = met + 4294967296 * (twin + 65536 * users)
+
+abbrev pub metIn : ℕ → ℕ
+metIn note = note % 4294967296
+
+abbrev pub twinIn : ℕ → ℕ
+twinIn note = note / 4294967296 % 65536
+
+abbrev pub usersIn : ℕ → ℕ
+usersIn note = note / 281474976710656
+
+-- the set x has three numbers: its row's digits at the words' left sides, those at the right sides, and its note
+abbrev pub leftAt : List ℕ → ℕ → ℕ
+leftAt sets x = getD sets (3 * x) 0
+
+abbrev pub rightAt : List ℕ → ℕ → ℕ
+rightAt sets x = getD sets (3 * x + 1) 0
+
+abbrev pub noteAt : List ℕ → ℕ → ℕ
+noteAt sets x = getD sets (3 * x + 2) 0
+
 -- ── the parts of a set ──
 -- x is a part of s, neither empty nor s
 pub record Part (x s : ℕ) : Type 0 where
@@ -63,16 +87,20 @@ pub record Next (s t : ℕ) : Type 0 where
   pub below : t < 2 ^ last
 
 -- the part x at a word's left side, and the rest of s at its right side
-abbrev pub matched : List ℕ → List ℕ → ℕ → ℕ → ℕ → Bool
-matched left right s x q = bit q (getD left x 0) && bit q (getD right (s - x) 0)
+abbrev pub matched : List ℕ → ℕ → ℕ → ℕ → Bool
+matched sets s x q = bit q (leftAt sets x) && bit q (rightAt sets (s - x))
 
 -- no user acts in both parts, or the word is one of those where that does not matter
 abbrev pub allowed : List ℕ → ℕ → ℕ → ℕ → ℕ → Bool
-allowed users anyone s x q = eqb (bitAnd (getD users x 0) (getD users (s - x) 0)) 0 || bit q anyone
+allowed sets anyone s x q = eqb (bitAnd (usersIn (noteAt sets x)) (usersIn (noteAt sets (s - x)))) 0 || bit q anyone
+
+-- both
+abbrev pub matchedApart : List ℕ → ℕ → ℕ → ℕ → ℕ → Bool
+matchedApart sets anyone s x q = matched sets s x q && allowed sets anyone s x q
 
 -- both, at the words of `joint`
-abbrev pub jointly : ℕ → ℕ → List ℕ → List ℕ → List ℕ → ℕ → ℕ → ℕ → Bool
-jointly joint anyone left right users s x q = bit q joint && (matched left right s x q && allowed users anyone s x q)
+abbrev pub jointly : ℕ → ℕ → List ℕ → ℕ → ℕ → ℕ → Bool
+jointly joint anyone sets s x q = bit q joint && matchedApart sets anyone s x q
 
 -- the words of `joint` that two sets are possible for, by their digits at left sides, where possible begins at digit 31
 abbrev pub Chance : ℕ → ℕ → ℕ → ℕ → Type 0
@@ -168,11 +196,15 @@ pub record Sides (φ : Term) (l : List Action) (left right users : ℕ) : Type 0
   pub rights : Rights φ l right
   pub acting : Acting l users
 
+-- of the set x of the actions l
+abbrev pub SidesAt : Term → List Action → List ℕ → ℕ → Type 0
+SidesAt φ l sets x = Sides φ (select x l) (leftAt sets x) (rightAt sets x) (usersIn (noteAt sets x))
+
 -- what a row must be, whatever the policy and the actions
-abbrev pub RowOf : Masks → List ℕ → List ℕ → List ℕ → List ℕ → ℕ → ℕ → ℕ → ℕ → Type 0
-RowOf m ops left right users met s row row-right =
-    (φ : Term) (l : List Action) → Suited φ m ops → s < 2 ^ length l
-    → ((x : ℕ) → x < s → Sides φ (select x l) (getD left x 0) (getD right x 0) (getD users x 0)) → Noted (select s l) met → RowIs φ (select s l) row row-right
+abbrev pub RowOf : Masks → List ℕ → List ℕ → ℕ → ℕ → ℕ → ℕ → Type 0
+RowOf m ops sets met s row row-right =
+    (φ : Term) (l : List Action) → Suited φ m ops → s < 2 ^ length l → ((x : ℕ) → x < s → SidesAt φ l sets x) → Noted (select s l) met
+    → RowIs φ (select s l) row row-right
 
 -- what is stored of the row of the set s
 pub record StoredIs (φ : Term) (l : List Action) (s : ℕ) (r : Stored) : Type 0 where
@@ -181,39 +213,30 @@ pub record StoredIs (φ : Term) (l : List Action) (s : ℕ) (r : Stored) : Type 
   pub possible : r .possible ≡ rowOf true φ l s
 
 -- so it must be where all sets before s are stored and `twin` has the actions of s
-abbrev pub StoredOf : Masks → List ℕ → List ℕ → List ℕ → List ℕ → List ℕ → ℕ → ℕ → ℕ → Stored → Type 0
-StoredOf m ops left right users workspace met s twin r =
-    (φ : Term) (l : List Action) → Suited φ m ops → s < 2 ^ length l
-    → ((x : ℕ) → x < s → Sides φ (select x l) (getD left x 0) (getD right x 0) (getD users x 0))
+abbrev pub StoredOf : Masks → List ℕ → List ℕ → List ℕ → ℕ → ℕ → ℕ → Stored → Type 0
+StoredOf m ops sets workspace met s twin r =
+    (φ : Term) (l : List Action) → Suited φ m ops → s < 2 ^ length l → ((x : ℕ) → x < s → SidesAt φ l sets x)
     → ((x : ℕ) → x < s → (getD workspace x 0 ≡ rowOf false φ l x) × (getD workspace (4096 + x) 0 ≡ rowOf true φ l x))
     → Noted (select s l) met → Perm (select twin l) (select s l) → StoredIs φ l s r
 
--- the tables: for each set the digits at left and right sides, its users, what all its actions met, and a twin; and the workspace
+-- the table of sets, and the workspace
 pub record Tables : Type 0 where
-  pub left : List ℕ
-  pub right : List ℕ
-  pub users : List ℕ
-  pub met : List ℕ
-  pub twins : List ℕ
+  pub sets : List ℕ
   pub workspace : List ℕ
 
-abbrev pub tables : List ℕ → List ℕ → List ℕ → List ℕ → List ℕ → List ℕ → Tables
-tables left right users met twins workspace = record { left = left; right = right; users = users; met = met; twins = twins; workspace = workspace }
+abbrev pub tables : List ℕ → List ℕ → Tables
+tables sets workspace = record { sets = sets; workspace = workspace }
 
 -- each has a place for every set below n
 pub record Long (n : ℕ) (t : Tables) : Type 0 where
-  pub left : n ≤ length (t .left)
-  pub right : n ≤ length (t .right)
-  pub users : n ≤ length (t .users)
-  pub met : n ≤ length (t .met)
-  pub twins : n ≤ length (t .twins)
+  pub sets : 3 * n ≤ length (t .sets)
   pub workspace : 8192 ≤ length (t .workspace)
 
 -- what stands in the tables for the set x of the actions l
 pub record Entry (φ : Term) (l : List Action) (t : Tables) (x : ℕ) : Type 0 where
-  pub sides : Sides φ (select x l) (getD (t .left) x 0) (getD (t .right) x 0) (getD (t .users) x 0)
-  pub noted : Noted (select x l) (getD (t .met) x 0)
-  pub twin : Perm (select (getD (t .twins) x 0) l) (select x l)
+  pub sides : SidesAt φ l (t .sets) x
+  pub noted : Noted (select x l) (metIn (noteAt (t .sets) x))
+  pub twin : Perm (select (twinIn (noteAt (t .sets) x)) l) (select x l)
   pub satisfied : getD (t .workspace) x 0 ≡ rowOf false φ l x
   pub possible : getD (t .workspace) (4096 + x) 0 ≡ rowOf true φ l x
 

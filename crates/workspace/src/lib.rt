@@ -9,6 +9,7 @@ ghost use Rattle.soda.specs.Lists.{all};
 ghost use Rattle.workspace.specs.Workspace.{fillOf};
 
 mod masks;
+mod notes;
 mod parts;
 mod rows;
 mod sizes;

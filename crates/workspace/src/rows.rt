@@ -1,7 +1,7 @@
 // The row of a set, from the rows of its parts and its own digits.
 ghost use mathlib.Core.Path.{_≡_};
 ghost use mathlib.Core.List.{List};
-ghost use Prim.Native.Nat.{ℕ, _≤_, _<_};
+ghost use Prim.Native.Nat.{ℕ, _+_, _*_, _≤_, _<_};
 ghost use lib.ListN.{length};
 ghost use Rattle.soda.specs.Bits.{bit};
 ghost use Rattle.workspace.specs.Private.{Next, based, Ascending, Listing, Operators, Coded, Finished, RowOf};
@@ -74,18 +74,9 @@ fn finish(base: u64, either: u64, both: u64, ops: &[u16]) -> Row
 
 // The row of the set s, from the rows of its parts; t is s without its last action. No action satisfies nothing and is possible
 // for every term. What is not possible for t, or for s without its first action, has no chance.
-pub(crate) fn row_of(
-    m: Masks,
-    ops: &[u16],
-    left: &[u64],
-    right: &[u64],
-    users: &[u16],
-    met: u32,
-    s: usize,
-    t: usize,
-) -> Row
-    requires { ⌜ (s < 4096) × (s < length (now left)) × (s < length (now right)) × (s < length (now users)) × Coded (now ops) × (0 < s → Next s t) ⌝ }
-    ensures { λ r. ⌜ RowOf m (now (ops .entry)) (now (left .entry)) (now (right .entry)) (now (users .entry)) met s (r .bits) (r .right) ⌝ }
+pub(crate) fn row_of(m: Masks, ops: &[u16], sets: &[u64], met: u32, s: usize, t: usize) -> Row
+    requires { ⌜ (s < 4096) × (3 * s + 2 < length (now sets)) × Coded (now ops) × (0 < s → Next s t) ⌝ }
+    ensures { λ r. ⌜ RowOf m (now (ops .entry)) (now (sets .entry)) met s (r .bits) (r .right) ⌝ }
 {
     let ones = u32::count_ones(s as u32);
     if ones == 0 {
@@ -94,8 +85,8 @@ pub(crate) fn row_of(
             right: m.first,
         };
     }
-    let joint = chance(m.joint, left[t], left[s & (s - 1)]);
-    let found = joints(joint, m.anyone, left, right, users, s, t);
+    let joint = chance(m.joint, sets[3 * t], sets[3 * (s & (s - 1))]);
+    let found = joints(joint, m.anyone, sets, s, t);
     let base = base_of(m.units, m.plus, packed(met, met), ones) | found;
     finish(base, m.either, m.both, ops)
 }

@@ -1,4 +1,4 @@
-// The tables in three sizes, and the workspace cleared and filled by a policy's shape.
+// The table of sets in three sizes, and the workspace cleared and filled by a policy's shape.
 ghost use mathlib.Core.Path.{_≡_};
 ghost use mathlib.Core.Bool.{true};
 ghost use Prim.Native.Nat.{_≤_, _^_};
@@ -26,28 +26,13 @@ fn clear(workspace: &mut [u32])
     }
 }
 
-// With a place in each table for the sets of six actions.
+// With a place for every set of six actions.
 fn fill_six(m: Masks, ops: &[u16], actions: [Action; 12], taken: u8, workspace: &mut [u32])
     requires { ⌜ (taken ≤ 6) × (all (λ a. ltb (a .user) 16) (take taken actions) ≡ true) × Coded (now ops) × (8192 ≤ length (now workspace)) ⌝ }
     ensures { λ _. ⌜ RowsStand m (now (ops .entry)) actions (2 ^ taken) (now (workspace .entry)) (now (workspace .exit)) ⌝ }
 {
-    let mut left = [0u64; 64];
-    let mut right = [0u64; 64];
-    let mut users = [0u16; 64];
-    let mut met = [0u32; 64];
-    let mut twins = [0u16; 64];
-    fill_tables(
-        m,
-        ops,
-        actions,
-        taken,
-        &mut left,
-        &mut right,
-        &mut users,
-        &mut met,
-        &mut twins,
-        workspace,
-    );
+    let mut sets = [0u64; 192];
+    fill_tables(m, ops, actions, taken, &mut sets, workspace);
 }
 
 // The same of nine actions.
@@ -55,23 +40,8 @@ fn fill_nine(m: Masks, ops: &[u16], actions: [Action; 12], taken: u8, workspace:
     requires { ⌜ (taken ≤ 9) × (all (λ a. ltb (a .user) 16) (take taken actions) ≡ true) × Coded (now ops) × (8192 ≤ length (now workspace)) ⌝ }
     ensures { λ _. ⌜ RowsStand m (now (ops .entry)) actions (2 ^ taken) (now (workspace .entry)) (now (workspace .exit)) ⌝ }
 {
-    let mut left = [0u64; 512];
-    let mut right = [0u64; 512];
-    let mut users = [0u16; 512];
-    let mut met = [0u32; 512];
-    let mut twins = [0u16; 512];
-    fill_tables(
-        m,
-        ops,
-        actions,
-        taken,
-        &mut left,
-        &mut right,
-        &mut users,
-        &mut met,
-        &mut twins,
-        workspace,
-    );
+    let mut sets = [0u64; 1536];
+    fill_tables(m, ops, actions, taken, &mut sets, workspace);
 }
 
 // The same of twelve actions.
@@ -79,26 +49,11 @@ fn fill_twelve(m: Masks, ops: &[u16], actions: [Action; 12], taken: u8, workspac
     requires { ⌜ (taken ≤ 12) × (all (λ a. ltb (a .user) 16) (take taken actions) ≡ true) × Coded (now ops) × (8192 ≤ length (now workspace)) ⌝ }
     ensures { λ _. ⌜ RowsStand m (now (ops .entry)) actions (2 ^ taken) (now (workspace .entry)) (now (workspace .exit)) ⌝ }
 {
-    let mut left = [0u64; 4096];
-    let mut right = [0u64; 4096];
-    let mut users = [0u16; 4096];
-    let mut met = [0u32; 4096];
-    let mut twins = [0u16; 4096];
-    fill_tables(
-        m,
-        ops,
-        actions,
-        taken,
-        &mut left,
-        &mut right,
-        &mut users,
-        &mut met,
-        &mut twins,
-        workspace,
-    );
+    let mut sets = [0u64; 12288];
+    fill_tables(m, ops, actions, taken, &mut sets, workspace);
 }
 
-// Enters all sets of the first taken actions, with tables not much larger than they need: zeroing tables for twelve actions
+// Enters all sets of the first taken actions, with a table not much larger than they need: zeroing one for twelve actions
 // takes longer than judging few.
 fn fill_sets(m: Masks, ops: &[u16], actions: [Action; 12], taken: u8, workspace: &mut [u32])
     requires { ⌜ (taken ≤ 12) × (all (λ a. ltb (a .user) 16) (take taken actions) ≡ true) × Coded (now ops) × (8192 ≤ length (now workspace)) ⌝ }

@@ -1,13 +1,18 @@
-// The tables of the sets, entered action by action.
+// The table of sets and the workspace, entered action by action. A set has three numbers in the table, side by side, as the walks
+// over parts read them together: its row's digits at left sides, those at right sides, and its note.
 ghost use mathlib.Core.Path.{_≡_};
 ghost use mathlib.Core.Bool.{true};
-ghost use Prim.Native.Nat.{_+_, _≤_, _<_, _^_};
+ghost use Prim.Native.Nat.{_+_, _*_, _≤_, _<_, _^_};
 ghost use lib.Dec.{ltb};
 ghost use lib.ListN.{length, take};
 ghost use Rattle.soda.specs.Lists.{all};
 ghost use Rattle.workspace.specs.Private.{Next, Coded, StoredOf, tables, Long, Entered, Added, AddedAll, RowsStand};
 use super::masks::Masks;
 use super::masks::unpacked;
+use super::notes::met_in;
+use super::notes::note_of;
+use super::notes::twin_in;
+use super::notes::users_in;
 use super::rows::row_of;
 use super::twins::alike_of;
 use super::twins::twin_of;
@@ -25,28 +30,26 @@ struct Stored {
 fn stored_of(
     m: Masks,
     ops: &[u16],
-    left: &[u64],
-    right: &[u64],
-    users: &[u16],
+    sets: &[u64],
     workspace: &[u32],
     met: u32,
     s: usize,
     t: usize,
     twin: usize,
 ) -> Stored
-    requires { ⌜ (s < 4096) × (s < length (now left)) × (s < length (now right)) × (s < length (now users)) × (8192 ≤ length (now workspace)) × Coded (now ops)
-        × (0 < s → Next s t) ⌝ }
-    ensures { λ r. ⌜ StoredOf m (now (ops .entry)) (now (left .entry)) (now (right .entry)) (now (users .entry)) (now (workspace .entry)) met s twin r ⌝ }
+    requires { ⌜ (s < 4096) × (3 * s + 2 < length (now sets)) × (8192 ≤ length (now workspace)) × Coded (now ops) × (0 < s → Next s t) ⌝ }
+    ensures { λ r. ⌜ StoredOf m (now (ops .entry)) (now (sets .entry)) (now (workspace .entry)) met s twin r ⌝ }
 {
     if twin < s {
+        let at = 3 * twin;
         return Stored {
-            left: left[twin],
-            right: right[twin],
+            left: sets[at],
+            right: sets[at + 1],
             satisfied: workspace[twin],
             possible: workspace[4096 + twin],
         };
     }
-    let row = row_of(m, ops, left, right, users, met, s, t);
+    let row = row_of(m, ops, sets, met, s, t);
     Stored {
         left: row.bits >> 1,
         right: row.right,
@@ -63,26 +66,19 @@ fn enter(
     t: usize,
     twin: usize,
     who: u16,
-    all: u32,
-    left: &mut [u64],
-    right: &mut [u64],
-    users: &mut [u16],
-    met: &mut [u32],
-    twins: &mut [u16],
+    met: u32,
+    sets: &mut [u64],
     workspace: &mut [u32],
 )
-    requires { ⌜ (s < 4096) × (twin ≤ s) × Coded (now ops) × (0 < s → Next s t)
-        × Long (s + 1) (tables (now left) (now right) (now users) (now met) (now twins) (now workspace)) ⌝ }
-    ensures { λ _. ⌜ Entered m (now (ops .entry)) s who all twin
-        (tables (now (left .entry)) (now (right .entry)) (now (users .entry)) (now (met .entry)) (now (twins .entry)) (now (workspace .entry)))
-        (tables (now (left .exit)) (now (right .exit)) (now (users .exit)) (now (met .exit)) (now (twins .exit)) (now (workspace .exit))) ⌝ }
+    requires { ⌜ (s < 4096) × (twin ≤ s) × Coded (now ops) × (0 < s → Next s t) × Long (s + 1) (tables (now sets) (now workspace)) ⌝ }
+    ensures { λ _. ⌜ Entered m (now (ops .entry)) s who met twin
+        (tables (now (sets .entry)) (now (workspace .entry))) (tables (now (sets .exit)) (now (workspace .exit))) ⌝ }
 {
-    let row = stored_of(m, ops, left, right, users, workspace, all, s, t, twin);
-    left[s] = row.left;
-    right[s] = row.right;
-    users[s] = who;
-    met[s] = all;
-    twins[s] = twin as u16;
+    let row = stored_of(m, ops, sets, workspace, met, s, t, twin);
+    let at = 3 * s;
+    sets[at] = row.left;
+    sets[at + 1] = row.right;
+    sets[at + 2] = note_of(who, twin as u16, met);
     workspace[s] = row.satisfied;
     workspace[4096 + s] = row.possible;
 }
@@ -95,40 +91,22 @@ fn add(
     j: usize,
     a: Action,
     alike: usize,
-    left: &mut [u64],
-    right: &mut [u64],
-    users: &mut [u16],
-    met: &mut [u32],
-    twins: &mut [u16],
+    sets: &mut [u64],
     workspace: &mut [u32],
 )
-    requires { ⌜ (j < 12) × (a .user < 16) × (alike < 2 ^ j) × Coded (now ops) × Long (2 ^ (j + 1)) (tables (now left) (now right) (now users) (now met) (now twins) (now workspace)) ⌝ }
+    requires { ⌜ (j < 12) × (a .user < 16) × (alike < 2 ^ j) × Coded (now ops) × Long (2 ^ (j + 1)) (tables (now sets) (now workspace)) ⌝ }
     ensures { λ _. ⌜ Added m (now (ops .entry)) j a alike (2 ^ (j + 1))
-        (tables (now (left .entry)) (now (right .entry)) (now (users .entry)) (now (met .entry)) (now (twins .entry)) (now (workspace .entry)))
-        (tables (now (left .exit)) (now (right .exit)) (now (users .exit)) (now (met .exit)) (now (twins .exit)) (now (workspace .exit))) ⌝ }
+        (tables (now (sets .entry)) (now (workspace .entry))) (tables (now (sets .exit)) (now (workspace .exit))) ⌝ }
 {
     let user: u16 = 1 << a.user;
     let top: usize = 1 << j;
     let mut t: usize = 0;
     while t < top {
-        let who = users[t] | user;
-        let all = met[t] & a.met;
-        let twin = twin_of(alike, top, t, twins[t]);
-        enter(
-            m,
-            ops,
-            top + t,
-            t,
-            twin,
-            who,
-            all,
-            left,
-            right,
-            users,
-            met,
-            twins,
-            workspace,
-        );
+        let note = sets[3 * t + 2];
+        let who = users_in(note) | user;
+        let met = met_in(note) & a.met;
+        let twin = twin_of(alike, top, t, twin_in(note));
+        enter(m, ops, top + t, t, twin, who, met, sets, workspace);
         t = t + 1;
     }
 }
@@ -139,36 +117,18 @@ fn add_all(
     ops: &[u16],
     actions: [Action; 12],
     taken: u8,
-    left: &mut [u64],
-    right: &mut [u64],
-    users: &mut [u16],
-    met: &mut [u32],
-    twins: &mut [u16],
+    sets: &mut [u64],
     workspace: &mut [u32],
 )
-    requires { ⌜ (taken ≤ 12) × (all (λ a. ltb (a .user) 16) (take taken actions) ≡ true) × Coded (now ops)
-        × Long (2 ^ taken) (tables (now left) (now right) (now users) (now met) (now twins) (now workspace)) ⌝ }
+    requires { ⌜ (taken ≤ 12) × (all (λ a. ltb (a .user) 16) (take taken actions) ≡ true) × Coded (now ops) × Long (2 ^ taken) (tables (now sets) (now workspace)) ⌝ }
     ensures { λ _. ⌜ AddedAll m (now (ops .entry)) actions (2 ^ taken)
-        (tables (now (left .entry)) (now (right .entry)) (now (users .entry)) (now (met .entry)) (now (twins .entry)) (now (workspace .entry)))
-        (tables (now (left .exit)) (now (right .exit)) (now (users .exit)) (now (met .exit)) (now (twins .exit)) (now (workspace .exit))) ⌝ }
+        (tables (now (sets .entry)) (now (workspace .entry))) (tables (now (sets .exit)) (now (workspace .exit))) ⌝ }
 {
     let mut j: usize = 0;
     while j < taken as usize {
         let a = actions[j];
         let alike = alike_of(actions, j);
-        add(
-            m,
-            ops,
-            j,
-            a,
-            alike,
-            left,
-            right,
-            users,
-            met,
-            twins,
-            workspace,
-        );
+        add(m, ops, j, a, alike, sets, workspace);
         j = j + 1;
     }
 }
@@ -179,42 +139,12 @@ pub(crate) fn fill_tables(
     ops: &[u16],
     actions: [Action; 12],
     taken: u8,
-    left: &mut [u64],
-    right: &mut [u64],
-    users: &mut [u16],
-    met: &mut [u32],
-    twins: &mut [u16],
+    sets: &mut [u64],
     workspace: &mut [u32],
 )
-    requires { ⌜ (taken ≤ 12) × (all (λ a. ltb (a .user) 16) (take taken actions) ≡ true) × Coded (now ops)
-        × Long (2 ^ taken) (tables (now left) (now right) (now users) (now met) (now twins) (now workspace)) ⌝ }
+    requires { ⌜ (taken ≤ 12) × (all (λ a. ltb (a .user) 16) (take taken actions) ≡ true) × Coded (now ops) × Long (2 ^ taken) (tables (now sets) (now workspace)) ⌝ }
     ensures { λ _. ⌜ RowsStand m (now (ops .entry)) actions (2 ^ taken) (now (workspace .entry)) (now (workspace .exit)) ⌝ }
 {
-    enter(
-        m,
-        ops,
-        0,
-        0,
-        0,
-        0,
-        0xffff_ffff,
-        left,
-        right,
-        users,
-        met,
-        twins,
-        workspace,
-    );
-    add_all(
-        m,
-        ops,
-        actions,
-        taken,
-        left,
-        right,
-        users,
-        met,
-        twins,
-        workspace,
-    );
+    enter(m, ops, 0, 0, 0, 0, 0xffff_ffff, sets, workspace);
+    add_all(m, ops, actions, taken, sets, workspace);
 }

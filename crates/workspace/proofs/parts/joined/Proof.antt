@@ -10,32 +10,36 @@ use Rattle.workspace.proofs.parts.joined.Statement.{statement}
 use Rattle.workspace.proofs.parts.joined.Tie as tie
 
 abbrev Inv-loop : tie.InvT-loop
-Inv-loop left right s t high low acc₀ a₀ acc a = At (matched left right s) s t high a acc
+Inv-loop sets s t high low acc₀ a₀ acc a = At (matched sets s) s t high a acc
 
 abbrev μ-loop : tie.MeasureT-loop
-μ-loop left right s t high low acc₀ a₀ acc a = a
+μ-loop sets s t high low acc₀ a₀ acc a = a
+
+abbrev start : tie.At-loop Inv-loop μ-loop → tie.Start Inv-loop μ-loop
+start c = c .before .before .before
 
 loop-holds : tie.Need-loop-holds Inv-loop μ-loop
-loop-holds c = let start = c .before .before .before in begin _ _ _ _ (start .pre .3) (lowest _ (start .pre .0)) _ (c .parted .ensures)
+loop-holds c = let p = c .before .before .pre in begin _ _ _ _ (p .3) (lowest _ (p .0)) _ (c .parted .ensures)
 
 -- a turn's part, the actions of t but the first, t and s
-room : (c : tie.In-loop Inv-loop μ-loop) → let a = c .before .before .before .before .before .args in
+room : (c : tie.In-loop Inv-loop μ-loop) → let a = start (c .before) .args in
     (c .before .loop .a ≤ bitAnd (a .t) (a .t - 1)) × (bitAnd (a .t) (a .t - 1) < a .t) × (a .t ≤ a .s)
-room c = let start = c .before .before .before .before .before in inside _ _ _ _ (start .pre .3) (lowest _ (start .pre .0)) _ _ (c .before .loop .inv)
+room c = let p = start (c .before) .pre in inside _ _ _ _ (p .3) (lowest _ (p .0)) _ _ (c .before .loop .inv)
 
 one-requires : tie.Need-parted-requires-2 Inv-loop μ-loop
-one-requires c κs = let start = c .before .before .before .before .before in (omega (arith, room c), start .pre .1, start .pre .2)
+one-requires c κs = let p = start (c .before) .pre in (omega (arith, room c), p .1, p .2)
 
 two-requires : tie.Need-parted-requires-3 Inv-loop μ-loop
-two-requires c κs = let start = c .before .before .before .before .before .before in (omega (arith, room (c .before)), start .pre .1, start .pre .2)
+two-requires c κs = let p = start (c .before .before) .pre in (omega (arith, room (c .before)), p .1, p .2)
 
 loop-again : tie.Need-loop-again Inv-loop μ-loop
 loop-again c =
-    let start = c .before .before .before .before .before .before .before in
-    next _ _ _ _ (start .pre .3) (lowest _ (start .pre .0)) _ _ _ _ (c .before .before .loop-test .taken) (c .before .before .before .loop .inv) (c .before .parted2 .ensures) (c .parted3 .ensures)
+    let turn = c .before .before in
+    let p = start (turn .before) .pre in
+    next _ _ _ _ (p .3) (lowest _ (p .0)) _ _ _ _ (turn .loop-test .taken) (turn .before .loop .inv) (c .before .parted2 .ensures) (c .parted3 .ensures)
 
 returns : tie.Need-returns Inv-loop μ-loop
-returns c = let start = c .before .before .before .before .before in done _ _ _ _ (start .pre .3) (lowest _ (start .pre .0)) _ _ (c .loop-test .left) (c .before .loop .inv)
+returns c = let p = start (c .before) .pre in done _ _ _ _ (p .3) (lowest _ (p .0)) _ _ (c .loop-test .left) (c .before .loop .inv)
 
 pub joined-spec : {M : Type 1} → statement M
 joined-spec =
@@ -44,7 +48,7 @@ joined-spec =
     Inv-loop
     μ-loop
     (λ c. search needs)
-    (λ c. omega (arith, and-le-l (c .before .before .args .t) (c .before .before .args .t - 1)))
+    (λ c. omega (arith, and-le-l (c .before .args .t) (c .before .args .t - 1)))
     (λ c κs. search needs)
     loop-holds
     one-requires

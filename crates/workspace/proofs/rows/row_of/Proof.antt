@@ -5,7 +5,7 @@ use mathlib.Core.List.{[]}
 use Prim.Native.Nat.{_-_, _<_}
 use native.Mathlib.Omega.{arith}
 use borrow.Author.Needs.{needs}
-use lib.Bits.{bitAnd, and-le-l}
+use lib.Bits.{bitAnd}
 use Rattle.soda.specs.Bits.{bit}
 use Rattle.workspace.specs.Workspace.{select}
 use lib.ListN.{length}
@@ -19,40 +19,47 @@ use Rattle.workspace.proofs.Judging.{in-both, row-is, empty-row}
 use Rattle.workspace.proofs.rows.row_of.Statement.{statement}
 use Rattle.workspace.proofs.rows.row_of.Tie as tie
 
+-- the start; where the set has an action; and where its parts are walked
+abbrev start : tie.Else1 → tie.Start
+start c = c .before .before .before
+
+abbrev some-action : tie.After-chance → tie.Else1
+some-action c = c .before .before .before
+
+abbrev walked : tie.After-finish → tie.After-joints
+walked c = c .before .before .before
+
 returns : tie.Need-returns
 returns c φ l u h k n =
-    let a = c .before .before .before .before .before .args in
+    let a = c .before .before .before .args in
     subst (λ t. RowIs φ t (a .m .first) (a .m .first)) (sym (ap (λ x. select x l) (ones-none (a .s) (c .if1 .taken)) ∙ select-none l))
     (empty-row φ (a .m) (a .ops .now) u)
 
 -- there is an action, and s is t with one more
-some : (c : tie.Else1) → 0 < c .before .before .before .before .before .args .s
-some c = some-ones (c .before .before .before .before .before .args .s) (c .if1 .left)
+some : (c : tie.Else1) → 0 < start c .args .s
+some c = some-ones (start c .args .s) (c .if1 .left)
 
-after : (c : tie.Else1) → let a = c .before .before .before .before .before .args in Next (a .s) (a .t)
-after c = c .before .before .before .before .before .pre .5 (some c)
+after : (c : tie.Else1) → let a = start c .args in Next (a .s) (a .t)
+after c = start c .pre .3 (some c)
 
-read-last : tie.Need-shared-slice-read-chance
-read-last c = let start = c .before .before .before .before .before .before in omega (arith, start .pre .1, last-part (after (c .before)) .1)
+-- t and s without its first action are below s
+last-below : (c : tie.Else1) → let a = start c .args in a .t < a .s
+last-below c = last-part (after c) .1
 
-read-first : tie.Need-shared-slice-read-chance-2
-read-first c = let start = c .before .before .before .before .before .before .before in omega (arith, start .pre .1, and-le-l (start .args .s) (start .args .s - 1))
+first-below : (c : tie.Else1) → let a = start c .args in bitAnd (a .s) (a .s - 1) < a .s
+first-below c = first-part (start c .args .s) (some c) .1
 
 joints-requires : tie.Need-joints-requires
-joints-requires c κs =
-    let turn = c .before .before .before in
-    let p = turn .before .before .before .before .before .pre in
-    (p .1, p .2, p .3, after turn)
+joints-requires c κs = let turn = some-action c in let p = start turn .pre in (p .0, p .1, after turn)
 
 returns-2 : tie.Need-returns-2
 returns-2 c φ l u h k n =
-    let turn = c .before .before .before .before .before .before .before in
-    let a = turn .before .before .before .before .before .args in
+    let found = walked c in
+    let turn = some-action (found .before) in
+    let a = start turn .args in
     let met = c .before .before .packed in
-    let joint = c .before .before .before .joints in
-    let hope = c .before .before .before .before .chance in
     let base = c .before .base-of in
-    row-is {φ = φ} {l = l} {m = a .m} {ops = a .ops .now} {left = a .left .now} {rights = a .right .now} {users = a .users .now} {s = a .s} {met = met .result} {joint = joint .result}
+    row-is {φ = φ} {l = l} {m = a .m} {ops = a .ops .now} {sets = a .sets .now} {s = a .s} {met = met .result} {joint = found .joints .result}
     (record {
       suited = u;
       known = k;
@@ -62,10 +69,10 @@ returns-2 c φ l u h k n =
       one = a .t;
       two = bitAnd (a .s) (a .s - 1);
       parts = (last-part (after turn), first-part (a .s) (some turn));
-      chance = hope .result;
-      chances = hope .ensures;
-      joined = joint .ensures;
-      is-base = λ q. bit-or q (base .result) (joint .result) ∙ ap (λ b. b || bit q (joint .result)) (base .ensures q);
+      chance = found .before .chance .result;
+      chances = found .before .chance .ensures;
+      joined = found .joints .ensures;
+      is-base = λ q. bit-or q (base .result) (found .joints .result) ∙ ap (λ b. b || bit q (found .joints .result)) (base .ensures q);
       finished = c .finish .ensures (rightSides 0 φ) (ascending φ (u .formed) (u .short))
           (subst (Listing (a .m .either) (a .m .both) (rightSides 0 φ) (a .ops .now) (length (a .ops .now))) (sym (rights-length 0 φ)) (u .listed));
     })
@@ -76,11 +83,13 @@ row-of-spec =
     (tie.spec
     (λ c. search needs)
     returns
-    (λ c. record { fits = omega (arith, c .before .before .before .before .before .pre .0, last-part (after c) .1) })
-    read-last
+    (λ c. record { fits = omega (arith, start c .pre .0, last-below c) })
+    (λ c. record { fits = omega (arith, start c .pre .0, last-below c) })
+    (λ c. omega (arith, start (c .before) .pre .1, last-below (c .before)))
     (λ c. omega (arith, some (c .before)))
-    (λ c. let start = c .before .before .before .before .before .before in record { fits = omega (arith, start .pre .0, and-le-l (start .args .s) (start .args .s - 1)) })
-    read-first
+    (λ c. record { fits = omega (arith, start (c .before) .pre .0, first-below (c .before)) })
+    (λ c. record { fits = omega (arith, start (c .before) .pre .0, first-below (c .before)) })
+    (λ c. omega (arith, start (c .before .before) .pre .1, first-below (c .before .before)))
     (λ c κs. search needs)
     joints-requires
     (λ c κs. search needs)

@@ -10,53 +10,63 @@ use Rattle.workspace.proofs.tables.add.Statement.{statement}
 use Rattle.workspace.proofs.tables.add.Tie as tie
 
 abbrev Inv-loop : tie.InvT-loop
-Inv-loop m ops j a alike left₀ right₀ users₀ met₀ twins₀ workspace₀ user top t₀ left right users met twins workspace t =
-    Adding m ops j a alike (tables left₀ right₀ users₀ met₀ twins₀ workspace₀) (tables left right users met twins workspace) user top t
+Inv-loop m ops j a alike sets₀ workspace₀ user top t₀ sets workspace t = Adding m ops j a alike (tables sets₀ workspace₀) (tables sets workspace) user top t
 
 abbrev μ-loop : tie.MeasureT-loop
-μ-loop m ops j a alike left₀ right₀ users₀ met₀ twins₀ workspace₀ user top t₀ left right users met twins workspace t = top - t
+μ-loop m ops j a alike sets₀ workspace₀ user top t₀ sets workspace t = top - t
+
+-- the start; in a turn, where the note is unpacked, its twin found and the set entered
+abbrev start : tie.At-loop Inv-loop μ-loop → tie.Start Inv-loop μ-loop
+start c = c .before .before .before .before .before
+
+abbrev met-read : tie.After-twin-of Inv-loop μ-loop → tie.After-met-in Inv-loop μ-loop
+met-read c = c .before .before .before
+
+abbrev turn : tie.After-met-in Inv-loop μ-loop → tie.In-loop Inv-loop μ-loop
+turn c = c .before .before .before
+
+abbrev twinned : tie.After-enter-arg2 Inv-loop μ-loop → tie.After-twin-of Inv-loop μ-loop
+twinned c = c .before .before
+
+abbrev entered : tie.After-slice-known5 Inv-loop μ-loop → tie.After-enter Inv-loop μ-loop
+entered c = c .before .before .before .before
+
+-- a turn, from its end
+abbrev turned : tie.After-slice-known5 Inv-loop μ-loop → tie.In-loop Inv-loop μ-loop
+turned c = turn (met-read (twinned (entered c .before)))
 
 loop-holds : tie.Need-loop-holds Inv-loop μ-loop
 loop-holds c =
-    let start = c .before .before .before .before .before .before .before .before in
-    add-begin _ _ _ _ _ _ _ _ (one-shl 16 (start .args .a .user) (start .pre .1)) (one-shl 64 (start .args .j) (omega arith))
+    let s = c .before .before .before .before in
+    add-begin _ _ _ _ _ _ _ _ (one-shl 16 (s .args .a .user) (s .pre .1)) (one-shl 64 (s .args .j) (omega arith))
 
 -- the set of this turn has a place, and the tables are as long as they were
-below : (c : tie.In-loop Inv-loop μ-loop) → 1 * 2 ^ c .before .before .before .before .before .before .before .before .before .before .args .j % 2 ^ 64 + c .before .loop .t < 4096
-below c = add-below _ _ _ _ _ _ _ _ _ _ (c .before .loop .inv) (c .loop-test .taken) (c .before .before .before .before .before .before .before .before .before .before .pre .0)
+below : (c : tie.In-loop Inv-loop μ-loop) → 1 * 2 ^ start (c .before) .args .j % 2 ^ 64 + c .before .loop .t < 4096
+below c = add-below _ _ _ _ _ _ _ _ _ _ (c .before .loop .inv) (c .loop-test .taken) (start (c .before) .pre .0)
 
-long : (c : tie.In-loop Inv-loop μ-loop) → let at = c .before .loop in Long (1 * 2 ^ c .before .before .before .before .before .before .before .before .before .before .args .j % 2 ^ 64 + at .t + 1) (tables (at .left) (at .right) (at .users) (at .met) (at .twins) (at .workspace))
-long c = long-same (add-room _ _ _ _ _ _ _ _ _ _ (c .before .loop .inv) (c .loop-test .taken)) (c .before .before .before .before .before .before .before .before .before .before .pre .4) (c .before .loop .inv .lengths)
+long : (c : tie.In-loop Inv-loop μ-loop) → let at = c .before .loop in Long (1 * 2 ^ start (c .before) .args .j % 2 ^ 64 + at .t + 1) (tables (at .sets) (at .workspace))
+long c = long-same (add-room _ _ _ _ _ _ _ _ _ _ (c .before .loop .inv) (c .loop-test .taken)) (start (c .before) .pre .4) (c .before .loop .inv .lengths)
 
 twin-of-requires : tie.Need-twin-of-requires Inv-loop μ-loop
 twin-of-requires c κs =
-    let turn = c .before .before .before .before in
-    let pre = turn .before .before .before .before .before .before .before .before .before .before .pre in
-    (omega (arith, below turn), turn .loop-test .taken, omega (arith, pre .2, turn .before .loop .inv .is-top))
+    let t = turn (c .before .before) in
+    (omega (arith, below t), t .loop-test .taken, omega (arith, start (t .before) .pre .2, t .before .loop .inv .is-top))
 
 enter-requires : tie.Need-enter-requires Inv-loop μ-loop
 enter-requires c κs =
-    let turn = c .before .before .before .before .before .before .before .before .before .before .before in
-    (below turn, c .before .before .before .before .before .before .twin-of .ensures .0, turn .before .before .before .before .before .before .before .before .before .before .pre .3, λ h. add-next _ _ _ _ _ _ _ _ _ _ (turn .before .loop .inv) (turn .loop-test .taken), long turn)
+    let twin = twinned c in
+    let t = turn (met-read twin) in
+    (below t, twin .twin-of .ensures .0, start (t .before) .pre .3, λ h. add-next _ _ _ _ _ _ _ _ _ _ (t .before .loop .inv) (t .loop-test .taken), long t)
 
 loop-again : tie.Need-loop-again Inv-loop μ-loop
 loop-again c =
-    let turn = c .before .before .before .before .before .before .before .before .before .before .before .before .before .before .before .before .before .before .before .before .before .before .before .before in
-    let twin = c .before .before .before .before .before .before .before .before .before .before .before .before .before .before .before .before .before .before .before .twin-of in
-    let entered = c .before .before .before .before .before .before .before .before .before .before .before .before .enter in
-    add-turn _ _ _ _ _ _ _ _ _ _ (turn .before .loop .inv) (turn .loop-test .taken) _ (twin .result)
-    (record {
-      left = entered .kept .1 .1 .1 .1 .1 .1 .1 .0;
-      right = entered .kept .1 .1 .1 .1 .1 .1 .1 .1 .0;
-      users = entered .kept .1 .1 .1 .1 .1 .1 .1 .1 .1 .0;
-      met = entered .kept .1 .1 .1 .1 .1 .1 .1 .1 .1 .1 .0;
-      twins = entered .kept .1 .1 .1 .1 .1 .1 .1 .1 .1 .1 .1 .0;
-      workspace = entered .kept .1 .1 .1 .1 .1 .1 .1 .1 .1 .1 .1 .1 .0;
-    })
-    (twin .ensures .1) (entered .ensures)
-
-returns : tie.Need-returns Inv-loop μ-loop
-returns c = add-end _ _ _ _ _ _ _ _ _ _ (c .before .loop .inv) (c .loop-test .left)
+    let set = entered c .enter in
+    let twin = twinned (entered c .before) in
+    let met = met-read twin in
+    let t = turn met in
+    add-turn _ _ _ _ _ _ _ _ _ _ (t .before .loop .inv) (t .loop-test .taken) _ _ _ _ _ (met .before .users-in .ensures) (met .met-in .ensures) (twin .before .twin-in .ensures)
+    (record { sets = set .kept .1 .1 .1 .1 .1 .1 .1 .0; workspace = set .kept .1 .1 .1 .1 .1 .1 .1 .1 .0 })
+    (twin .twin-of .ensures .1) (set .ensures)
 
 pub add-spec : {M : Type 1} → statement M
 add-spec =
@@ -69,21 +79,18 @@ add-spec =
     (λ c. search needs)
     loop-holds
     (λ c. record { fits = omega (arith, below c) })
-    (λ c. omega (arith, below (c .before), long (c .before) .users))
-    (λ c. record { fits = omega (arith, below (c .before)) })
-    (λ c. omega (arith, below (c .before .before), long (c .before .before) .met))
-    (λ c. record { fits = omega (arith, below (c .before .before .before)) })
-    (λ c. omega (arith, below (c .before .before .before .before), long (c .before .before .before .before) .twins))
+    (λ c. record { fits = omega (arith, below c) })
+    (λ c. record { fits = omega (arith, below c) })
+    (λ c. omega (arith, below (c .before), long (c .before) .sets))
+    (λ c κs. search needs)
+    (λ c κs. search needs)
+    (λ c κs. search needs)
     twin-of-requires
-    (λ c. record { fits = omega (arith, below (c .before .before .before .before .before)) })
+    (λ c. record { fits = omega (arith, below (turn (met-read c))) })
     enter-requires
-    (λ c. record { fits = omega (arith, below (c .before .before .before .before .before .before .before .before .before .before .before .before .before .before .before .before .before .before .before .before .before .before .before .before)) })
-    (λ c. falls _ _ (c .before .before .before .before .before .before .before .before .before .before .before .before .before .before .before .before .before .before .before .before .before .before .before .before .loop-test .taken))
+    (λ c. record { fits = omega (arith, below (turned c)) })
+    (λ c. falls _ _ (turned c .loop-test .taken))
     loop-again
-    (λ c. c .before .loop .inv .lengths .left)
-    (λ c. c .before .loop .inv .lengths .right)
-    (λ c. c .before .loop .inv .lengths .users)
-    (λ c. c .before .loop .inv .lengths .met)
-    (λ c. c .before .loop .inv .lengths .twins)
+    (λ c. c .before .loop .inv .lengths .sets)
     (λ c. c .before .loop .inv .lengths .workspace)
-    returns)
+    (λ c. add-end _ _ _ _ _ _ _ _ _ _ (c .before .loop .inv) (c .loop-test .left)))

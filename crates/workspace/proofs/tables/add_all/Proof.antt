@@ -13,49 +13,55 @@ use Rattle.workspace.proofs.tables.add_all.Statement.{statement}
 use Rattle.workspace.proofs.tables.add_all.Tie as tie
 
 abbrev Inv-loop : tie.InvT-loop
-Inv-loop m ops taken left₀ right₀ users₀ met₀ twins₀ workspace₀ actions j₀ left right users met twins workspace j =
-    AddingAll m ops actions taken (tables left₀ right₀ users₀ met₀ twins₀ workspace₀) (tables left right users met twins workspace) j
+Inv-loop m ops taken sets₀ workspace₀ actions j₀ sets workspace j = AddingAll m ops actions taken (tables sets₀ workspace₀) (tables sets workspace) j
 
 abbrev μ-loop : tie.MeasureT-loop
-μ-loop m ops taken left₀ right₀ users₀ met₀ twins₀ workspace₀ actions j₀ left right users met twins workspace j = taken - j
+μ-loop m ops taken sets₀ workspace₀ actions j₀ sets workspace j = taken - j
+
+-- the start; in a turn, where the places of actions alike are known and the action is added
+abbrev start : tie.At-loop Inv-loop μ-loop → tie.Start Inv-loop μ-loop
+start c = c .before .before .before .before
+
+abbrev turn : tie.After-alike-of Inv-loop μ-loop → tie.In-loop Inv-loop μ-loop
+turn c = c .before .before
+
+abbrev compared : tie.After-add-arg2 Inv-loop μ-loop → tie.After-alike-of Inv-loop μ-loop
+compared c = c .before .before
+
+abbrev added : tie.After-slice-known4 Inv-loop μ-loop → tie.After-add Inv-loop μ-loop
+added c = c .before .before .before .before
 
 -- the place of this turn
 place : (c : tie.In-loop Inv-loop μ-loop) → c .before .loop .j < 12
-place c = omega (arith, c .loop-test .taken, c .before .before .before .before .before .before .before .before .before .pre .0)
+place c = omega (arith, c .loop-test .taken, start (c .before) .pre .0)
+
+twelve : (c : tie.In-loop Inv-loop μ-loop) → length (start (c .before) .args .t3) ≡ 12
+twelve c = search needs
 
 add-requires : tie.Need-add-requires Inv-loop μ-loop
 add-requires c κs =
-    let turn = c .before .before .before .before .before .before .before .before in
-    let start = turn .before .before .before .before .before .before .before .before .before in
-    let a = start .args in
-    let n : length (a .t3) ≡ 12 = search needs in
-    let at = turn .before .loop in
-    let h = turn .loop-test .taken in (
-      place turn,
-      taken-user (a .t3) (a .taken) (at .j) (start .pre .1) h (omega (arith, place turn)),
-      c .before .before .before .before .before .before .alike-of .ensures .below,
-      start .pre .2,
-      long-same (pow-mono {j = a .taken} (omega arith)) (start .pre .3) (at .inv .lengths),
+    let t = turn (compared c) in
+    let p = start (t .before) .pre in
+    let a = start (t .before) .args in
+    let at = t .before .loop in
+    let h = t .loop-test .taken in (
+      place t,
+      taken-user (a .t3) (a .taken) (at .j) (p .1) h (omega (arith, place t, twelve t)),
+      compared c .alike-of .ensures .below,
+      p .2,
+      long-same {t′ = tables (at .sets) (at .workspace)} (pow-mono {j = a .taken} (omega arith)) (p .3) (at .inv .lengths),
     )
 
 loop-again : tie.Need-loop-again Inv-loop μ-loop
 loop-again c =
-    let turn = c .before .before .before .before .before .before .before .before .before .before .before .before .before .before .before .before .before .before .before .before .before in
-    let start = turn .before .before .before .before .before .before .before .before .before in
-    let n : length (start .args .t3) ≡ 12 = search needs in
-    let at = turn .before .loop in
-    let b : at .j < length (start .args .t3) = omega (arith, place turn) in
-    let added = c .before .before .before .before .before .before .before .before .before .before .before .before .add in
-    all-turn _ _ _ _ _ _ _ _ _ (at .inv) (turn .loop-test .taken) b
-    (record {
-      left = added .kept .1 .1 .1 .1 .1 .0;
-      right = added .kept .1 .1 .1 .1 .1 .1 .0;
-      users = added .kept .1 .1 .1 .1 .1 .1 .1 .0;
-      met = added .kept .1 .1 .1 .1 .1 .1 .1 .1 .0;
-      twins = added .kept .1 .1 .1 .1 .1 .1 .1 .1 .1 .0;
-      workspace = added .kept .1 .1 .1 .1 .1 .1 .1 .1 .1 .1 .0;
-    })
-    (c .before .before .before .before .before .before .before .before .before .before .before .before .before .before .before .before .before .before .before .alike-of .ensures) (added .ensures)
+    let alike = compared (added c .before) in
+    let t = turn alike in
+    let a = start (t .before) .args in
+    let b : t .before .loop .j < length (a .t3) = omega (arith, place t, twelve t) in
+    let add = added c .add in
+    all-turn _ _ _ _ _ _ _ _ _ (t .before .loop .inv) (t .loop-test .taken) b
+    (record { sets = add .kept .1 .1 .1 .1 .1 .0; workspace = add .kept .1 .1 .1 .1 .1 .1 .0 })
+    (alike .alike-of .ensures) (add .ensures)
 
 pub add-all-spec : {M : Type 1} → statement M
 add-all-spec =
@@ -69,12 +75,8 @@ add-all-spec =
     (λ c κs. place (c .before))
     add-requires
     (λ c. search needs)
-    (λ c. falls _ _ (c .before .before .before .before .before .before .before .before .before .before .before .before .before .before .before .before .before .before .before .before .before .loop-test .taken))
+    (λ c. falls _ _ (turn (compared (added c .before)) .loop-test .taken))
     loop-again
-    (λ c. c .before .loop .inv .lengths .left)
-    (λ c. c .before .loop .inv .lengths .right)
-    (λ c. c .before .loop .inv .lengths .users)
-    (λ c. c .before .loop .inv .lengths .met)
-    (λ c. c .before .loop .inv .lengths .twins)
+    (λ c. c .before .loop .inv .lengths .sets)
     (λ c. c .before .loop .inv .lengths .workspace)
     (λ c. all-end _ _ _ _ _ _ _ (c .before .loop .inv) (c .loop-test .left)))

@@ -8,35 +8,31 @@ use Rattle.workspace.proofs.Columns.{rows-stand}
 use Rattle.workspace.proofs.tables.fill_tables.Statement.{statement}
 use Rattle.workspace.proofs.tables.fill_tables.Tie as tie
 
+-- the start; where the empty set is entered, and where the others are
+abbrev start : tie.After-enter-arg2 → tie.Start
+start c = c .before .before .before .before .before
+
+abbrev first : tie.After-add-all-arg2 → tie.After-enter
+first c = c .before .before .before .before .before .before
+
+abbrev others : tie.After-slice-known6 → tie.After-add-all
+others c = c .before .before .before .before
+
 enter-requires : tie.Need-enter-requires
 enter-requires c κs =
-    let start = c .before .before .before .before .before .before .before .before .before .before .before .before .before in
-    (omega arith, omega arith, start .pre .2, λ h. absurd (omega arith), long-same (pow-pos (start .args .taken)) (start .pre .3) (same-refl _))
+    let p = start c .pre in
+    (omega arith, omega arith, p .2, λ h. absurd (omega arith), long-same (pow-pos (start c .args .taken)) (p .3) (same-refl _))
 
 add-all-requires : tie.Need-add-all-requires
 add-all-requires c κs =
-    let first = c .before .before .before .before .before .before .before .before .before .before .before .before .before .before .before .before .before .before in
-    let start = first .before .before .before .before .before .before .before .before .before .before .before .before .before .before in
-    let kept = first .enter .kept in (
-      start .pre .0,
-      start .pre .1,
-      start .pre .2,
-      long-same (le-refl _) (start .pre .3)
-          (record {
-            left = kept .1 .1 .1 .1 .1 .1 .1 .0;
-            right = kept .1 .1 .1 .1 .1 .1 .1 .1 .0;
-            users = kept .1 .1 .1 .1 .1 .1 .1 .1 .1 .0;
-            met = kept .1 .1 .1 .1 .1 .1 .1 .1 .1 .1 .0;
-            twins = kept .1 .1 .1 .1 .1 .1 .1 .1 .1 .1 .1 .0;
-            workspace = kept .1 .1 .1 .1 .1 .1 .1 .1 .1 .1 .1 .1 .0;
-          }),
-    )
+    let p = start (first c .before) .pre in
+    let kept = first c .enter .kept in
+    (p .0, p .1, p .2, long-same (le-refl _) (p .3) (record { sets = kept .1 .1 .1 .1 .1 .1 .1 .0; workspace = kept .1 .1 .1 .1 .1 .1 .1 .1 .0 }))
 
 returns : tie.Need-returns
 returns c =
-    let others = c .before .before .before .before .before .before .before .before .before .before .before .before in
-    let first = others .before .before .before .before .before .before .before .before .before .before .before .before .before .before .before .before .before .before .before in
-    rows-stand (first .before .before .before .before .before .before .before .before .before .before .before .before .before .before .args .taken) (first .enter .ensures) (others .add-all .ensures)
+    let empty = first (others c .before) in
+    rows-stand (start (empty .before) .args .taken) (empty .enter .ensures) (others c .add-all .ensures)
 
 pub fill-tables-spec : {M : Type 1} → statement M
 fill-tables-spec =
@@ -44,10 +40,6 @@ fill-tables-spec =
     (tie.spec
     enter-requires
     add-all-requires
-    (λ c. search needs)
-    (λ c. search needs)
-    (λ c. search needs)
-    (λ c. search needs)
     (λ c. search needs)
     (λ c. search needs)
     returns)
