@@ -26,21 +26,21 @@ fn clear(workspace: &mut [u32])
     }
 }
 
-// With a place for every set of six actions.
-fn fill_six(m: Masks, ops: &[u16], actions: [Action; 12], taken: u8, workspace: &mut [u32])
-    requires { ⌜ (taken ≤ 6) × (all (λ a. ltb (a .user) 16) (take taken actions) ≡ true) × Coded (now ops) × (8192 ≤ length (now workspace)) ⌝ }
+// With a place for every set of four actions.
+fn fill_four(m: Masks, ops: &[u16], actions: [Action; 12], taken: u8, workspace: &mut [u32])
+    requires { ⌜ (taken ≤ 4) × (all (λ a. ltb (a .user) 16) (take taken actions) ≡ true) × Coded (now ops) × (8192 ≤ length (now workspace)) ⌝ }
     ensures { λ _. ⌜ RowsStand m (now (ops .entry)) actions (2 ^ taken) (now (workspace .entry)) (now (workspace .exit)) ⌝ }
 {
-    let mut sets = [0u64; 192];
+    let mut sets = [0u64; 48];
     fill_tables(m, ops, actions, taken, &mut sets, workspace);
 }
 
-// The same of nine actions.
-fn fill_nine(m: Masks, ops: &[u16], actions: [Action; 12], taken: u8, workspace: &mut [u32])
-    requires { ⌜ (taken ≤ 9) × (all (λ a. ltb (a .user) 16) (take taken actions) ≡ true) × Coded (now ops) × (8192 ≤ length (now workspace)) ⌝ }
+// The same of eight actions.
+fn fill_eight(m: Masks, ops: &[u16], actions: [Action; 12], taken: u8, workspace: &mut [u32])
+    requires { ⌜ (taken ≤ 8) × (all (λ a. ltb (a .user) 16) (take taken actions) ≡ true) × Coded (now ops) × (8192 ≤ length (now workspace)) ⌝ }
     ensures { λ _. ⌜ RowsStand m (now (ops .entry)) actions (2 ^ taken) (now (workspace .entry)) (now (workspace .exit)) ⌝ }
 {
-    let mut sets = [0u64; 1536];
+    let mut sets = [0u64; 768];
     fill_tables(m, ops, actions, taken, &mut sets, workspace);
 }
 
@@ -53,18 +53,24 @@ fn fill_twelve(m: Masks, ops: &[u16], actions: [Action; 12], taken: u8, workspac
     fill_tables(m, ops, actions, taken, &mut sets, workspace);
 }
 
-// Enters all sets of the first taken actions, with a table not much larger than they need: zeroing one for twelve actions
-// takes longer than judging few.
+// Enters all sets of the first taken actions, with a table not much larger than they need: zeroing one for twelve actions takes
+// longer than judging few. There are never more than 31 operators, so the call of itself is never made. It is there for compilers,
+// which join neither a function that calls itself with its caller nor one that has a large table with such a function: the stack
+// has room for a large table only while that table is in use.
 fn fill_sets(m: Masks, ops: &[u16], actions: [Action; 12], taken: u8, workspace: &mut [u32])
-    requires { ⌜ (taken ≤ 12) × (all (λ a. ltb (a .user) 16) (take taken actions) ≡ true) × Coded (now ops) × (8192 ≤ length (now workspace)) ⌝ }
+    requires { ⌜ (taken ≤ 12) × (all (λ a. ltb (a .user) 16) (take taken actions) ≡ true) × Coded (now ops) × (8192 ≤ length (now workspace)) × (length (now ops) ≤ 31) ⌝ }
     ensures { λ _. ⌜ RowsStand m (now (ops .entry)) actions (2 ^ taken) (now (workspace .entry)) (now (workspace .exit)) ⌝ }
 {
-    if taken <= 6 {
-        fill_six(m, ops, actions, taken, workspace);
+    if 31 < ops.len() {
+        fill_sets(m, &ops[..31], actions, taken, workspace);
         return;
     }
-    if taken <= 9 {
-        fill_nine(m, ops, actions, taken, workspace);
+    if taken <= 4 {
+        fill_four(m, ops, actions, taken, workspace);
+        return;
+    }
+    if taken <= 8 {
+        fill_eight(m, ops, actions, taken, workspace);
         return;
     }
     fill_twelve(m, ops, actions, taken, workspace);

@@ -1,4 +1,4 @@
--- There is a place for every set of 12 actions.
+-- There is a place for every set of twelve actions.
 use native.Mathlib.Omega.{arith}
 use borrow.Author.Needs.{needs}
 use Rattle.workspace.proofs.Entries.{long-blank}
