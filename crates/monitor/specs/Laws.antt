@@ -60,7 +60,7 @@ pub record Passed (m : Monitor) (e : Event) (n : ℕ) : Type 0 where
   pub in-layout : isMalformed e ≡ false
   pub own : code (ownRefusals (m .configuration) (m .instance) e) ≡ 0
 
--- So it is of an accepted event.
+-- An accepted event has passed them all.
 abbrev pub AcceptedHasPassed : Type 0
 AcceptedHasPassed = (m : Monitor) (e : Event) (n : ℕ) → code (eventRefusals m e n) ≡ 0 → Passed m e n
 
