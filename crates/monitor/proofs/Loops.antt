@@ -10,7 +10,6 @@ use lib.ListN.{length, getD, take, drop, set, replicate, drop-of-length-le}
 use lib.Seq.{drop-cons, take-suc, take-length, length-take-le, set-at, append-snoc}
 use Rattle.soda.specs.Lists.{all, padded}
 use Rattle.soda.proofs.Bools.{and-join}
-pub use Rattle.soda.proofs.Lists.{length-mapped}
 
 -- A loop that tests elements one by one, and is at place i: the test of all, which is b, is that of those from i on.
 module _ {A : Type 0} (f : A → Bool) (xs : List A) (d : A) (i : ℕ) {b : Bool} (kept : b ≡ all f (drop i xs)) where

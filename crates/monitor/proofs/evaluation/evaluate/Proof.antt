@@ -10,7 +10,7 @@ use lib.Seq.{length-take-le}
 use Rattle.workspace.specs.Workspace.{filled}
 use Rattle.monitor.specs.Instances.{term, takenOf}
 use Rattle.soda.proofs.Bits.{one-shl}
-use Rattle.monitor.proofs.Loops.{length-mapped}
+use Rattle.soda.proofs.Lists.{length-mapped}
 use Rattle.monitor.proofs.Verdicts.{satisfied-read, possible-read}
 use Rattle.monitor.proofs.Fillable.{taken-few, room-long, fill-is}
 use Rattle.monitor.proofs.evaluation.evaluate.Statement.{statement}

@@ -44,17 +44,19 @@ module _ (l : tie.At-loop Inv-loop μ-loop) where
   count : length ys ≡ l .before .args .taken
   count = length-take-le (l .before .args .taken) (l .before .args .t3) (omega (arith, l .before .good .1 .1 .0 .1 .0 .1))
 
+abbrev place : tie.After-action-ok Inv-loop μ-loop → tie.At-loop Inv-loop μ-loop
+place c = c .before .before .before
+
 -- what the test of action i said
-said : (c : tie.After-action-ok Inv-loop μ-loop) →
-    let l = c .before .before .before in c .action-ok .result ≡ ok l (getD (ys l) (l .loop .i) noAction)
+said : (c : tie.After-action-ok Inv-loop μ-loop) → let l = place c in c .action-ok .result ≡ ok l (getD (ys l) (l .loop .i) noAction)
 said c =
-    let l = c .before .before .before in
+    let l = place c in
     c .action-ok .ensures
     ∙ ap (ok l) (sym (getD-take (l .before .args .taken) (l .before .args .t3) (l .loop .i) noAction (omega arith)))
 
 returns : tie.Need-returns Inv-loop μ-loop
 returns c =
-    let l = c .before .before .before .before in
+    let l = place (c .before) in
     all-stop (ok l) (ys l) noAction (l .loop .i) (l .loop .inv) (omega (arith, count l)) (failed (said (c .before)) (c .if1 .taken))
 
 add-i : tie.Need-add-i Inv-loop μ-loop
@@ -65,7 +67,7 @@ loop-less c = search needs
 
 loop-again : tie.Need-loop-again Inv-loop μ-loop
 loop-again c =
-    let l = c .before .before .before .before in
+    let l = place (c .before) in
     all-more (ok l) (ys l) noAction (l .loop .i) (l .loop .inv) (omega (arith, count l)) (passed (said (c .before)) (c .if1 .left))
 
 returns-2 : tie.Need-returns-2 Inv-loop μ-loop

@@ -29,9 +29,12 @@ array-copy-out-is-idle c = search needs
 is-idle-requires : tie.Need-is-idle-requires Inv-loop μ-loop
 is-idle-requires c κs = search needs
 
+abbrev place : tie.After-is-idle Inv-loop μ-loop → tie.At-loop Inv-loop μ-loop
+place c = c .before .before .before
+
 returns : tie.Need-returns Inv-loop μ-loop
 returns c =
-    let l = c .before .before .before .before in
+    let l = place (c .before) in
     all-stop isIdle (l .before .args .t1) noAction (l .loop .i) (l .loop .inv) (omega (arith, l .before .good .0 .1 .0 .1))
     (failed (c .before .is-idle .ensures) (c .if1 .taken))
 
@@ -43,7 +46,7 @@ loop-less c = search needs
 
 loop-again : tie.Need-loop-again Inv-loop μ-loop
 loop-again c =
-    let l = c .before .before .before .before in
+    let l = place (c .before) in
     all-more isIdle (l .before .args .t1) noAction (l .loop .i) (l .loop .inv) (omega (arith, l .before .good .0 .1 .0 .1))
     (passed (c .before .is-idle .ensures) (c .if1 .left))
 

@@ -10,7 +10,7 @@ use Rattle.soda.specs.declared.Action.{Action}
 use Rattle.workspace.specs.Workspace.{filled}
 use Rattle.monitor.specs.declared.Instance.{Instance}
 use Rattle.monitor.specs.Instances.{term, takenOf, notedFor, withAction}
-use Rattle.monitor.proofs.Loops.{length-mapped}
+use Rattle.soda.proofs.Lists.{length-mapped}
 use Rattle.monitor.proofs.Formed.{ConfigurationFormed, InstanceFormed, configuration-formed, instance-formed}
 use Rattle.monitor.proofs.Fillable.{taken-more, fillable-more}
 use Rattle.monitor.proofs.steps.try_action.Statement.{statement}
