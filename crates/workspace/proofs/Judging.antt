@@ -215,8 +215,8 @@ module _ {φ : Term} {l : List Action} {m : Masks} {ops sets : List ℕ} {s ones
         let users-agree = agreed op α β u (eqb (bitAnd (usersIn (noteAt sets x)) (usersIn (noteAt sets (s - x)))) 0) (bit (place e i) (m .anyone)) (select x l) (select (s - x) l)
         (disjoint-masks (λ a. a .user) (usersIn (noteAt sets x)) (usersIn (noteAt sets (s - x))) (select x l) (select (s - x) l) (a .acting) (b .acting))
         (mark st e (isOp together) (m .anyone) (F .suited .masked .anyone)) in
-        (λ t. (one t && two t) && users-agree t)
-        ∙ and-assoc (judge e α (1 + i) (select x l)) (judge e β (1 + i + size α) (select (s - x) l)) (agree (λ a. a .user) op (select x l) (select (s - x) l))
+        _∙_ {c = parted (λ a. a .user) (judge e α (1 + i)) (judge e β (1 + i + size α)) op l s x} (λ t. (one t && two t) && users-agree t)
+        (and-assoc (judge e α (1 + i) (select x l)) (judge e β (1 + i + size α) (select (s - x) l)) (agree (λ a. a .user) op (select x l) (select (s - x) l)))
 
     -- a word that some part shows has a chance
     hopeful : unitOp op ≡ false → (x : ℕ) → Part x s → So (parted (λ a. a .user) (judge e α (1 + i)) (judge e β (1 + i + size α)) op l s x)

@@ -15,24 +15,38 @@ returns-2 c = unknown-user _ _ _ _ (sym (c .before .users-ok .ensures) ∙ not-t
 returns-4 : tie.Need-returns-4
 returns-4 c = no-policy _ _ _ _ (sym (ap (λ p. p .words) (c .before .before .shape-of .ensures)) ∙ c .if4 .taken)
 
+-- the start; where the users are found below 16; where the words are read; and where they are found to be a policy
+abbrev start : tie.Else1 → tie.Start
+start c = c .before .before .before
+
+abbrev users-known : tie.After-shape-of → tie.Else2
+users-known c = c .before .before
+
+abbrev begun : tie.After-shape-of → tie.Start
+begun c = start (users-known c .before .before)
+
+abbrev policy : tie.After-fill-by → tie.Else4
+policy c = c .before .before
+
 -- what is known behind the tests
-known-users : (c : tie.Else2) → let a = c .before .before .before .before .before .args in So (users-ok (take (a .taken) (a .actions)))
+known-users : (c : tie.Else2) → let a = start (c .before .before) .args in So (users-ok (take (a .taken) (a .actions)))
 known-users c = sym (c .before .users-ok .ensures) ∙ not-false (c .before .users-ok .result) (c .if2 .left)
 
-read : (c : tie.Else4) → Readable (c .before .before .before .before .before .before .before .before .before .args .words .now)
-read c = readable (c .before .before .before .before .before .before .before .before .before .args .words .now) (λ z. c .if4 .left (ap (λ p. p .words) (c .before .before .shape-of .ensures) ∙ z))
+read : (c : tie.Else4) → Readable (begun (c .before .before) .args .words .now)
+read c = readable (begun (c .before .before) .args .words .now) (λ z. c .if4 .left (ap (λ p. p .words) (c .before .before .shape-of .ensures) ∙ z))
 
 shaped : (c : tie.Else4) → Shaped (c .before .before .shape-of .result)
 shaped c = is-shaped (read c) (c .before .before .shape-of .ensures) (search needs)
 
 fill-by-requires : tie.Need-fill-by-requires
-fill-by-requires c κs = (shaped (c .before), search needs, known-users (c .before .before .before .before .before), search needs)
+fill-by-requires c κs = let e = c .before in (shaped e, search needs, known-users (users-known (e .before .before)), search needs)
 
 returns-5 : tie.Need-returns-5
 unfolding shaped is-shaped
 returns-5 c =
-    let at = c .before .before .before .before in
-    c .before .before .fill-by .ensures (shaped at) ∙ is-filled _ _ _ _ (read at) (search needs) (known-users (at .before .before .before .before)) (search needs)
+    let f = c .before .before in
+    let e = policy f in
+    f .fill-by .ensures (shaped e) ∙ is-filled _ _ _ _ (read e) (search needs) (known-users (users-known (e .before .before))) (search needs)
 
 pub fill-spec : {M : Type 1} → statement M
 fill-spec =

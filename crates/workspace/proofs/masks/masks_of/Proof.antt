@@ -15,14 +15,24 @@ shifted n h = one-shl 32 n (omega arith)
 sub-packed : tie.Need-sub-packed
 sub-packed c = omega (arith, shifted (c .before .before .args .shape .words) (c .before .before .pre), pow-pos (c .before .before .args .shape .words))
 
+-- where the masks of plus and the first row are packed, and the start
+abbrev plus-packed : tie.After-packed7 → tie.After-packed3
+plus-packed c = c .before .before .before .before .before
+
+abbrev first-packed : tie.After-packed7 → tie.After-packed
+first-packed c = plus-packed c .before .before
+
+abbrev start : tie.After-packed → tie.Start
+start c = c .before .before .before
+
 returns : tie.Need-returns
 returns c =
-    let start = c .before .before .before .before .before .before .before .before .before .before in
-    let first = c .before .before .before .before .before .before .before .packed in
+    let s = start (first-packed c) in
+    let first = first-packed c .packed in
     record {
-      first = subst (λ n. Packed 0 (n - 1) (first .result)) (shifted (start .args .shape .words) (start .pre)) (first .ensures);
-      units = c .before .before .before .before .before .before .packed2 .ensures;
-      plus = c .before .before .before .before .before .packed3 .ensures;
+      first = subst (λ n. Packed 0 (n - 1) (first .result)) (shifted (s .args .shape .words) (s .pre)) (first .ensures);
+      units = plus-packed c .before .packed2 .ensures;
+      plus = plus-packed c .packed3 .ensures;
       either = c .before .before .before .packed4 .ensures;
       both = c .before .before .packed5 .ensures;
       joint = c .before .packed6 .ensures;

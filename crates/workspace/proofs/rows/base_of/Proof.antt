@@ -5,4 +5,4 @@ use Rattle.workspace.proofs.rows.base_of.Statement.{statement}
 use Rattle.workspace.proofs.rows.base_of.Tie as tie
 
 pub base-of-spec : {M : Type 1} → statement M
-base-of-spec = tie.close (tie.spec (λ c q. simp (bit-or, bit-and, bit-shr q 1, eq-eqb _ _ (c .if1 .taken))) (λ c q. simp (bit-or, bit-and, bit-shr q 1, ne-eqb _ _ (c .if1 .left))))
+base-of-spec = tie.close (tie.spec (λ c q. simp (bit-or, bit-and, bit-shr q 1, eq-eqb _ _ (c .if1 .taken))) (λ c q. simp (bit-and, bit-shr q 1, ne-eqb _ _ (c .if1 .left))))

@@ -30,6 +30,10 @@ loop-again-2 c =
     let at = c .before .before .loop in
     list-skip (c .before .loop-test .taken) (shl-exact {a = 4294967297} 33 (at .i) 64 (search needs) (omega (arith, low (c .before)))) (c .if1 .left) (at .inv)
 
+-- the turn, where its right side is read
+abbrev turn : tie.After-shared-slice-known Inv-loop μ-loop → tie.In-loop Inv-loop μ-loop
+turn c = c .before .before
+
 pub operators-spec : {M : Type 1} → statement M
 operators-spec =
     tie.close
@@ -46,11 +50,11 @@ operators-spec =
     (λ c. omega (arith, behind (c .before .before)))
     (λ c. record { fits = omega (arith, inside (c .before .before)) })
     (λ c. record { fits = omega (arith, inside (c .before .before)) })
-    (λ c. record { fits = omega (arith, low (c .before .before), c .before .before .before .loop .inv .few) })
-    (λ c. omega (arith, low (c .before .before), c .before .before .before .loop .inv .few, c .before .before .before .loop .inv .lengths, c .before .before .before .before .pre .1))
-    (λ c. record { fits = omega (arith, low (c .before .before), c .before .before .before .loop .inv .few) })
-    (λ c. falls _ _ (c .before .before .loop-test .taken))
-    (λ c. list-take (c .before .before .before .before .pre .0) (c .before .before .before .before .pre .1) (c .before .before .loop-test .taken) (c .before .before .before .loop .inv))
+    (λ c. record { fits = omega (arith, low (turn c), turn c .before .loop .inv .few) })
+    (λ c. omega (arith, low (turn c), turn c .before .loop .inv .few, turn c .before .loop .inv .lengths, turn c .before .before .pre .1))
+    (λ c. record { fits = omega (arith, low (turn c), turn c .before .loop .inv .few) })
+    (λ c. falls _ _ (turn c .loop-test .taken))
+    (λ c. list-take (turn c .before .before .pre .0) (turn c .before .before .pre .1) (turn c .loop-test .taken) (turn c .before .loop .inv))
     (λ c. falls _ _ (c .before .loop-test .taken))
     loop-again-2
     (λ c. c .before .loop .inv .lengths)

@@ -16,8 +16,11 @@ abbrev μ-loop : tie.MeasureT-loop
 μ-loop m ops j a alike sets₀ workspace₀ user top t₀ sets workspace t = top - t
 
 -- the start; in a turn, where the note is unpacked, its twin found and the set entered
+abbrev given : tie.After-struct-known Inv-loop μ-loop → tie.Start Inv-loop μ-loop
+given c = c .before .before .before .before
+
 abbrev start : tie.At-loop Inv-loop μ-loop → tie.Start Inv-loop μ-loop
-start c = c .before .before .before .before .before
+start c = given (c .before)
 
 abbrev met-read : tie.After-twin-of Inv-loop μ-loop → tie.After-met-in Inv-loop μ-loop
 met-read c = c .before .before .before
@@ -37,7 +40,7 @@ turned c = turn (met-read (twinned (entered c .before)))
 
 loop-holds : tie.Need-loop-holds Inv-loop μ-loop
 loop-holds c =
-    let s = c .before .before .before .before in
+    let s = given c in
     add-begin _ _ _ _ _ _ _ _ (one-shl 16 (s .args .a .user) (s .pre .1)) (one-shl 64 (s .args .j) (omega arith))
 
 -- the set of this turn has a place, and the tables are as long as they were
@@ -64,7 +67,8 @@ loop-again c =
     let twin = twinned (entered c .before) in
     let met = met-read twin in
     let t = turn met in
-    add-turn _ _ _ _ _ _ _ _ _ _ (t .before .loop .inv) (t .loop-test .taken) _ _ _ _ _ (met .before .users-in .ensures) (met .met-in .ensures) (twin .before .twin-in .ensures)
+    add-turn _ _ _ _ _ _ _ _ _ _ (t .before .loop .inv) (t .loop-test .taken) (tables (set .last .1 .1 .1 .1 .1 .1 .1 .0) (set .last .1 .1 .1 .1 .1 .1 .1 .1 .0)) _ _ _ _
+    (met .before .users-in .ensures) (met .met-in .ensures) (twin .before .twin-in .ensures)
     (record { sets = set .kept .1 .1 .1 .1 .1 .1 .1 .0; workspace = set .kept .1 .1 .1 .1 .1 .1 .1 .1 .0 })
     (twin .twin-of .ensures .1) (set .ensures)
 

@@ -3,6 +3,7 @@ use native.Mathlib.Nat.{le-refl}
 use native.Mathlib.Omega.{arith}
 use lib.Pow.{pow-pos}
 use borrow.Author.Needs.{needs}
+use Rattle.workspace.specs.Private.{tables}
 use Rattle.workspace.proofs.Entries.{same-refl, long-same}
 use Rattle.workspace.proofs.Columns.{rows-stand}
 use Rattle.workspace.proofs.tables.fill_tables.Statement.{statement}
@@ -32,7 +33,8 @@ add-all-requires c κs =
 returns : tie.Need-returns
 returns c =
     let empty = first (others c .before) in
-    rows-stand (start (empty .before) .args .taken) (empty .enter .ensures) (others c .add-all .ensures)
+    let set = empty .enter in
+    rows-stand {first = tables (set .last .1 .1 .1 .1 .1 .1 .1 .0) (set .last .1 .1 .1 .1 .1 .1 .1 .1 .0)} (start (empty .before) .args .taken) (set .ensures) (others c .add-all .ensures)
 
 pub fill-tables-spec : {M : Type 1} → statement M
 fill-tables-spec =

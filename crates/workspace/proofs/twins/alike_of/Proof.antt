@@ -16,12 +16,16 @@ Inv-loop j actions a alike₀ k₀ alike k = Finding actions j k alike
 abbrev μ-loop : tie.MeasureT-loop
 μ-loop j actions a alike₀ k₀ alike k = j - k
 
+-- the turn, where two actions are compared
+abbrev turn : tie.After-is-alike Inv-loop μ-loop → tie.In-loop Inv-loop μ-loop
+turn c = c .before .before
+
 loop-again : tie.Need-loop-again Inv-loop μ-loop
 loop-again c =
-    let turn = c .before .before .before in
-    let start = turn .before .before .before in
-    let at = turn .before .loop in
-    let h = turn .loop-test .taken in
+    let t = turn (c .before) in
+    let start = t .before .before .before in
+    let at = t .before .loop in
+    let h = t .loop-test .taken in
     subst (λ n. Finding (start .args .t1) (start .args .j) (at .k + 1) (bitOr (at .alike) n)) (sym (one-shl 64 (at .k) (omega (arith, start .pre))))
     (find-take (start .args .t1) (start .args .j) (at .k) (at .alike) h (at .inv) (sym (c .before .is-alike .ensures) ∙ c .if1 .taken))
 
@@ -39,8 +43,8 @@ alike-of-spec =
     (λ c. search needs)
     (λ c κs. search needs)
     (λ c. search needs)
-    (λ c. falls _ _ (c .before .before .before .loop-test .taken))
+    (λ c. falls _ _ (turn (c .before) .loop-test .taken))
     loop-again
-    (λ c. falls _ _ (c .before .before .before .loop-test .taken))
-    (λ c. find-skip _ _ _ _ (c .before .before .before .loop-test .taken) (c .before .before .before .before .loop .inv))
+    (λ c. falls _ _ (turn (c .before) .loop-test .taken))
+    (λ c. find-skip _ _ _ _ (turn (c .before) .loop-test .taken) (turn (c .before) .before .loop .inv))
     (λ c. find-end _ _ _ _ (c .loop-test .left) (c .before .loop .inv)))
