@@ -1,32 +1,30 @@
 -- The workspace as one list: a column for satisfied, one for possible, each with zeros behind its sets, and what stood past them.
 use mathlib.Core.Path.{_≡_, sym, _∙_, ap, ap₂, subst}
 use mathlib.Core.Bool.{Bool, true, false, So}
-use mathlib.Core.List.{List, [], _∷_, _++_, map, Perm·refl}
+use mathlib.Core.List.{List, [], _∷_, _++_, map}
 use mathlib.Core.Logic.{_⊎_, inl, inr}
 use Prim.Native.Nat.{ℕ, zero, suc, _+_, _-_, _^_, _≤_, _<_}
 use native.Mathlib.Omega.{arith}
-use borrow.Author.Tests.{lt-ltb}
 use lib.Dec.{ltb}
 use lib.ListN.{length, getD, take, drop, replicate, length-append, length-map, length-replicate, length-drop, getD-replicate, List·getD-append}
-use lib.Pow.{pow-pos, pow-mono}
+use lib.Pow.{pow-mono}
 use lib.Seq.{getD-append-add, getD-drop, getD-take, ext-getD, length-take-le, take-at}
-use Rattle.soda.specs.Bits.{bit, number}
+use Rattle.soda.specs.Bits.{number}
 use Rattle.soda.specs.Lists.{all}
 use Rattle.soda.specs.Terms.{Term, size}
-use Rattle.soda.specs.Tables.{acts}
 use Rattle.soda.proofs.Bools.{and-split, so-lt}
-use Rattle.soda.proofs.Bits.{bit-of-zero, bit-number}
+use Rattle.soda.proofs.Bits.{bit-number}
 use Rattle.policy.specs.Shapes.{rightSides}
 use Rattle.policy.specs.declared.Shape.{Shape}
 use Rattle.workspace.specs.Workspace.{range, select, judged, rowOf, column, tableOf, filled, WordIsRow, BitIsJudged}
-use Rattle.workspace.specs.Private.{Masked, Ascending, Listing, Operators, Coded, Suited, Tables, Known, Cleared, Entered, AddedAll, RowsStand, Shaped}
+use Rattle.workspace.specs.Private.{Masked, Ascending, Listing, Operators, Coded, Suited, Cleared, RowsStand, Shaped}
 use Rattle.soda.specs.declared.Action.{Action}
 use Rattle.workspace.specs.declared.masks.Masks.{Masks}
-use Rattle.workspace.proofs.Digits.{lt-or-le, bit-ones}
-use Rattle.workspace.proofs.Select.{select-none, select-take}
+use Rattle.workspace.proofs.Digits.{lt-or-le}
+use Rattle.workspace.proofs.Select.{select-take}
 use Rattle.workspace.proofs.Subterms.{rights-length, ascending}
 use Rattle.workspace.proofs.Complete.{listing-same}
-use Rattle.workspace.proofs.Entries.{range-length, map-range, kept-more}
+use Rattle.workspace.proofs.Entries.{range-length, map-range}
 
 -- ── what a shape gives ──
 module _ {p : Shape} (w : Shaped p) where
@@ -62,23 +60,6 @@ module _ {p : Shape} (w : Shaped p) where
 pub coded-take : {either both : ℕ} {places : List ℕ} (ops : List ℕ) (n : ℕ) → n ≤ length ops → Operators either both places ops n → Coded (take n ops)
 coded-take ops n b o j h =
     let k : j < n = omega (arith, h, length-take-le n ops b) in subst (λ x. x < 1024) (sym (getD-take n ops j 0 k)) (o .coded j k)
-
--- ── the empty set ──
-known-first : {m : Masks} {ops : List ℕ} {t t′ : Tables} → Entered m ops 0 0 4294967295 0 t t′ → (φ : Term) (l : List Action) → Suited φ m ops → Known φ l t′ 1
-known-first e φ l u = e .known φ l u (pow-pos (length l))
-    (λ v. bit-of-zero v ∙ sym (ap (λ k. acts (λ (a : Action). a .user) v k) (select-none l)))
-    (λ i h. bit-ones 32 i ∙ lt-ltb i 32 h ∙ sym (ap (all (λ (a : Action). bit i (a .met))) (select-none l)))
-    (Perm·refl (select 0 l))
-    (λ x h. absurd (omega arith))
-
--- the empty set, then all others
-pub rows-stand : {m : Masks} {ops : List ℕ} {l : List Action} {t first t′ : Tables} (n : ℕ) → Entered m ops 0 0 4294967295 0 t first → AddedAll m ops l (2 ^ n) first t′
-    → RowsStand m ops l (2 ^ n) (t .workspace) (t′ .workspace)
-rows-stand {l = l} n e a = record {
-  satisfied = λ φ u x b. a .known φ u (known-first e φ l u) x b .satisfied;
-  possible = λ φ u x b. a .known φ u (known-first e φ l u) x b .possible;
-  kept = kept-more (pow-pos n) (e .kept) (a .kept);
-}
 
 -- the users of the taken actions
 pub taken-user : (l : List Action) (n j : ℕ) → So (all (λ a. ltb (a .user) 16) (take n l)) → j < n → j < length l → getD l j (record { user = 0; met = 0 }) .user < 16

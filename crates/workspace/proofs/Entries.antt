@@ -1,31 +1,32 @@
 -- What stands in the tables: a set entered, and the sets of one action more.
 use mathlib.Core.Path.{_≡_, refl, sym, _∙_, ap, ap₂, subst}
 use mathlib.Core.Bool.{Bool, true, false, _&&_, _||_, and-true, and-assoc, or-false}
-use mathlib.Core.List.{List, [], _∷_, _++_, map, Perm}
+use mathlib.Core.List.{List, [], _∷_, _++_, map, Perm, Perm·refl}
 use mathlib.Core.Logic.{_⊎_, inl, inr}
-use Prim.Native.Nat.{ℕ, zero, suc, _+_, _*_, _/_, _^_, _≤_, _<_}
+use Prim.Native.Nat.{ℕ, zero, suc, _+_, _*_, _/_, _%_, _^_, _≤_, _<_}
 use native.Mathlib.Nat.{eq-or-lt-of-le, pow-suc, lt-of-lt-of-le}
 use native.Mathlib.Omega.{arith}
-use lib.Bits.{bitAnd, bitOr}
+use borrow.Author.Tests.{lt-ltb}
+use lib.Bits.{bitAnd, bitOr, and-mask}
 use lib.Dec.{eqb}
 use lib.ListN.{length, getD, set, length-set, length-map, replicate, length-replicate, List·getD-eq-default}
-use lib.Pow.{pow-mono}
+use lib.Pow.{pow-mono, pow-pos, low as low-digits}
 use lib.Seq.{getD-set-same, getD-set-other}
 use Rattle.soda.specs.Bits.{bit, number}
 use Rattle.soda.specs.Lists.{all}
 use Rattle.soda.specs.Terms.{Term, size}
 use Rattle.soda.specs.Tables.{acts}
 use Rattle.soda.proofs.Bools.{same-test, eq-so, so-eq}
-use Rattle.soda.proofs.Bits.{number-lt, bit-number}
+use Rattle.soda.proofs.Bits.{number-lt, bit-number, bit-of-zero}
 use Rattle.soda.proofs.Splits.{any-append}
 use Rattle.policy.specs.Shapes.{rightSides}
 use Rattle.workspace.specs.Workspace.{range, select, judged, rowOf}
-use Rattle.workspace.specs.Private.{place, Unpacked, noteOf, metIn, twinIn, usersIn, leftAt, rightAt, noteAt, Next, AlikePlaces, Twin, Suited, Acting, Noted, RowIs, RowOf, StoredIs, StoredOf, Tables, tables, Long, Entry, Known, Cleared, Kept, Entered, Added, AddedAll}
+use Rattle.workspace.specs.Private.{place, Unpacked, noteOf, metIn, twinIn, usersIn, turnedRow, satisfiedIn, possibleIn, leftAt, rightAt, noteAt, Next, AlikePlaces, Twin, Suited, Acting, Noted, RowIs, RowOf, Entry, Known, StoredIs, StoredOf, Cleared, Entered, Added, AddedAll, Written, RowsStand}
 use Rattle.soda.specs.declared.Action.{Action}
 use Rattle.workspace.specs.declared.masks.Masks.{Masks}
 use Rattle.workspace.specs.declared.tables.Stored.{Stored}
-use Rattle.workspace.proofs.Digits.{lt-or-le, bit-and, bit-or, bit-shr, bit-power, bit-ext}
-use Rattle.workspace.proofs.Select.{select-next}
+use Rattle.workspace.proofs.Digits.{lt-or-le, bit-and, bit-or, bit-shr, bit-power, bit-ext, bit-mask, bit-ones}
+use Rattle.workspace.proofs.Select.{select-next, select-none}
 use Rattle.workspace.proofs.Exchange.{twin-perm, judged-twin, row-twin}
 use Rattle.workspace.proofs.Table.{stored, left-here, right-here, note-here, elsewhere, met-noted, twin-noted, users-noted}
 
@@ -56,104 +57,134 @@ row-number e φ l s row right w short r c h = bit-ext 32 w (number digits) h fit
     at i b (inl k) = let z : 0 + i ≡ i = omega arith in r .here e i k ∙ sym (map-range (judged e φ (select s l)) false 0 (size φ) i k ∙ ap (judged e φ (select s l)) z)
     at i b (inr k) = r .past e i k b ∙ sym (List·getD-eq-default digits false (omega (arith, long)))
 
+-- ── a row turned ──
+-- what is above 2^31, and above 2^63, is read off by itself
+below-half : (q c : ℕ) → (q + 2147483648 * c) % 2147483648 ≡ q % 2147483648
+below-half q c = omega arith
+
+above-half : (q c : ℕ) → (q + 2147483648 * c) / 2147483648 ≡ q / 2147483648 + c
+above-half q c = omega arith
+
+above-all : (q b : ℕ) → q < 9223372036854775808 → (q + 9223372036854775808 * b) / 9223372036854775808 ≡ b
+above-all q b h = omega arith
+
+halves : (row : ℕ) → 2 * (row / 2 % 2147483648) + row % 2 ≡ row % 4294967296
+halves row = omega arith
+
+upper : (row b : ℕ) → row < 18446744073709551616 → (row / 2 / 2147483648 + 4294967296 * b) % 4294967296 ≡ row / 4294967296
+upper row b h = omega arith
+
+module _ (row : ℕ) (h : row < 18446744073709551616) where
+  pub bit-turned : (q : ℕ) → q < 63 → bit q (turnedRow row) ≡ bit (1 + q) row
+  bit-turned q k =
+      let n : turnedRow row ≡ row % 2 * 2 ^ 63 + row / 2 = omega arith in
+      let fits : row / 2 < 2 ^ 63 = omega arith in
+      ap (bit q) n ∙ sym (bit-mask 63 q (row % 2 * 2 ^ 63 + row / 2) k) ∙ ap (bit q) (and-mask (row % 2 * 2 ^ 63 + row / 2) 63 ∙ low-digits (row % 2) 63 fits) ∙ bit-shr q 1 row
+
+  in-halves : turnedRow row ≡ row / 2 + 2147483648 * (4294967296 * (row % 2))
+  in-halves = omega arith
+
+  satisfied-turned : satisfiedIn (turnedRow row) ≡ row % 2 ^ 32
+  satisfied-turned =
+      ap₂ (λ a b. 2 * a + b) (ap (λ n. n % 2147483648) in-halves ∙ below-half (row / 2) (4294967296 * (row % 2))) (above-all (row / 2) (row % 2) (omega arith)) ∙ halves row
+
+  possible-turned : possibleIn (turnedRow row) ≡ row / 2 ^ 32
+  possible-turned = ap (λ n. n / 2147483648 % 4294967296) in-halves ∙ ap (λ n. n % 4294967296) (above-half (row / 2) (4294967296 * (row % 2))) ∙ upper row (row % 2) h
+
+  -- the columns of a row
+  module _ (φ : Term) (l : List Action) (s right : ℕ) (short : size φ ≤ 31) (r : RowIs φ (select s l) row right) where
+    turned-satisfied : satisfiedIn (turnedRow row) ≡ rowOf false φ l s
+    turned-satisfied = satisfied-turned ∙ row-number false φ l s row right (row % 2 ^ 32) short r
+        (λ i b. let z : i ≡ 0 + i = omega arith in ap (bit i) (sym (and-mask row 32)) ∙ bit-mask 32 i row b ∙ ap (λ q. bit q row) z) (omega arith)
+
+    turned-possible : possibleIn (turnedRow row) ≡ rowOf true φ l s
+    turned-possible = possible-turned ∙ row-number true φ l s row right (row / 2 ^ 32) short r (λ i b. bit-shr i 32 row) (omega arith)
+
 -- ── one set entered ──
 -- what is stored of a twin's row
-pub stored-twin : (m : Masks) (ops sets workspace : List ℕ) (met s twin : ℕ) → twin < s
-    → StoredOf m ops sets workspace met s twin
-    (record { left = leftAt sets twin; right = rightAt sets twin; satisfied = getD workspace twin 0; possible = getD workspace (4096 + twin) 0 })
-stored-twin m ops sets workspace met s twin h φ l u f g w n p = record {
-  sides = λ who acting.
-      let b = g twin h in
-      record {
-        lefts = λ e i c. b .lefts e i c ∙ judged-twin φ (select twin l) (select s l) p e (1 + i);
-        possible = λ i c. b .possible i c ∙ judged-twin φ (select twin l) (select s l) p true i;
-        rights = λ e i c o. b .rights e i c o ∙ judged-twin φ (select twin l) (select s l) p e (getD (rightSides 0 φ) i 0);
-        acting = acting;
-      };
-  satisfied = w twin h .0 ∙ row-twin false φ l twin s p;
-  possible = w twin h .1 ∙ row-twin true φ l twin s p;
+pub stored-twin : (m : Masks) (ops sets : List ℕ) (met s twin : ℕ) → twin < s → StoredOf m ops sets met s twin (record { left = leftAt sets twin; right = rightAt sets twin })
+stored-twin m ops sets met s twin h φ l u f g n p = let b = g twin h in record {
+  sides = λ who acting. record {
+    lefts = λ e i c. b .sides .lefts e i c ∙ judged-twin φ (select twin l) (select s l) p e (1 + i);
+    possible = λ i c. b .sides .possible i c ∙ judged-twin φ (select twin l) (select s l) p true i;
+    rights = λ e i c o. b .sides .rights e i c o ∙ judged-twin φ (select twin l) (select s l) p e (getD (rightSides 0 φ) i 0);
+    acting = acting;
+  };
+  satisfied = b .satisfied ∙ row-twin false φ l twin s p;
+  possible = b .possible ∙ row-twin true φ l twin s p;
 }
 
 -- and of a row from its parts
-pub stored-row : (m : Masks) (ops sets workspace : List ℕ) (met s twin row row-right low high : ℕ) → RowOf m ops sets met s row row-right
-    → Unpacked false row low → Unpacked true row high → low < 2 ^ 32 → high < 2 ^ 32
-    → StoredOf m ops sets workspace met s twin (record { left = row / 2 ^ 1; right = row-right; satisfied = low; possible = high })
-stored-row m ops sets workspace met s twin row row-right low high r is-low is-high low-fits high-fits φ l u f g w n p =
-    let here = r φ l u f g n in
+pub stored-row : (m : Masks) (ops sets : List ℕ) (met s twin row row-right left : ℕ) → row < 18446744073709551616 → left ≡ turnedRow row → RowOf m ops sets met s row row-right
+    → StoredOf m ops sets met s twin (record { left = left; right = row-right })
+stored-row m ops sets met s twin row row-right left fits e r φ l u f g n p =
+    let here = r φ l u f (λ x b. g x b .sides) n in
     record {
       sides = λ who acting. record {
-        lefts = λ e i b. let z : 1 + place e i ≡ place e (1 + i) = omega arith in bit-shr (place e i) 1 row ∙ ap (λ q. bit q row) z ∙ here .here e (1 + i) b;
-        possible = λ i b. let z : 1 + (31 + i) ≡ place true i = omega arith in bit-shr (31 + i) 1 row ∙ ap (λ q. bit q row) z ∙ here .here true i b;
+        lefts = λ e′ i b.
+            let short = u .short in
+            let z : 1 + place e′ i ≡ place e′ (1 + i) = omega arith in
+            ap (bit (place e′ i)) e ∙ bit-turned row fits (place e′ i) (below-63 e′ i (omega arith)) ∙ ap (λ q. bit q row) z ∙ here .here e′ (1 + i) b;
+        possible = λ i b.
+            let short = u .short in
+            let z : 1 + (31 + i) ≡ place true i = omega arith in
+            ap (bit (31 + i)) e ∙ bit-turned row fits (31 + i) (omega arith) ∙ ap (λ q. bit q row) z ∙ here .here true i b;
         rights = here .sided;
         acting = acting;
       };
-      satisfied = row-number false φ l s row row-right low (u .short) here is-low low-fits;
-      possible = row-number true φ l s row row-right high (u .short) here is-high high-fits;
+      satisfied = ap satisfiedIn e ∙ turned-satisfied row fits φ l s row-right (u .short) here;
+      possible = ap possibleIn e ∙ turned-possible row fits φ l s row-right (u .short) here;
     }
+  where
+    below-63 : (e : Bool) (i : ℕ) → i < 31 → place e i < 63
+    below-63 true i b = omega arith
+    below-63 false i b = omega arith
 
-module _ (m : Masks) (ops : List ℕ) (s who met twin : ℕ) (t : Tables) (row : Stored)
-    (h : s < 4096) (met-fits : met < 4294967296) (twin-fits : twin < 65536) (n : Long (s + 1) t) (r : StoredOf m ops (t .sets) (t .workspace) met s twin row) where
-  abbrev low : ℕ
-  low = row .satisfied
-
-  abbrev high : ℕ
-  high = row .possible
-
+module _ (m : Masks) (ops : List ℕ) (s who met twin : ℕ) (sets : List ℕ) (row : Stored)
+    (met-fits : met < 4294967296) (twin-fits : twin < 65536) (n : 3 * (s + 1) ≤ length sets) (r : StoredOf m ops sets met s twin row) where
   abbrev note : ℕ
   note = noteOf who twin met
 
-  abbrev pub after : Tables
-  after = tables (stored (t .sets) s (row .left) (row .right) note) (set (set (t .workspace) s low) (4096 + s) high)
+  abbrev pub after : List ℕ
+  after = stored sets s (row .left) (row .right) note
 
-  pub entered : Entered m ops s who met twin t after
-  entered = record {
-    known = λ φ l u f a k p g x b. entry φ l u f a k p g x (eq-or-lt-of-le (le x b));
-    kept = record {
-      low = λ k a b. getD-set-other (set (t .workspace) s low) (4096 + s) k high 0 (λ q. omega arith) ∙ getD-set-other (t .workspace) s k low 0 (λ q. omega arith);
-      high = λ k a. getD-set-other (set (t .workspace) s low) (4096 + s) k high 0 (λ q. omega arith) ∙ getD-set-other (t .workspace) s k low 0 (λ q. omega arith);
-    };
-  }
+  pub entered : Entered m ops s who met twin sets after
+  entered φ l u f a k p g x b = entry x (eq-or-lt-of-le (le x b))
     where
       le : (x : ℕ) → x < s + 1 → x ≤ s
       le x b = omega arith
 
-      room : 3 * s + 2 < length (t .sets)
-      room = omega (arith, n .sets)
+      room : 3 * s + 2 < length sets
+      room = omega arith
 
-      here : noteAt (after .sets) s ≡ note
-      here = note-here (t .sets) s (row .left) (row .right) note room
+      left-is : leftAt after s ≡ row .left
+      left-is = left-here sets s (row .left) (row .right) note room
 
-      earlier : (k : ℕ) → k < 3 * s → getD (after .sets) k 0 ≡ getD (t .sets) k 0
-      earlier k b = elsewhere (t .sets) s (row .left) (row .right) note k b
+      note-is : noteAt after s ≡ note
+      note-is = note-here sets s (row .left) (row .right) note room
 
-      entry : (φ : Term) (l : List Action) → Suited φ m ops → s < 2 ^ length l → Acting (select s l) who → Noted (select s l) met → Perm (select twin l) (select s l)
-          → Known φ l t s → (x : ℕ) → (x ≡ s) ⊎ (x < s) → Entry φ l after x
-      entry φ l u f a k p g x (inl q) = subst (Entry φ l after) (sym q) (record {
-        sides = rw (
-          left-here (t .sets) s (row .left) (row .right) note room,
-          right-here (t .sets) s (row .left) (row .right) note room,
-          here,
-          users-noted who twin met met-fits twin-fits,
-        ) (is .sides who a);
-        noted = rw (here, met-noted who twin met met-fits) k;
-        twin = rw (here, twin-noted who twin met met-fits twin-fits) p;
-        satisfied = getD-set-other (set (t .workspace) s low) (4096 + s) s high 0 (λ z. omega arith) ∙ getD-set-same (t .workspace) s low 0 (omega (arith, n .workspace))
-            ∙ is .satisfied;
-        possible = getD-set-same (set (t .workspace) s low) (4096 + s) high 0 (omega (arith, n .workspace, length-set (t .workspace) s low)) ∙ is .possible;
+      earlier : (k : ℕ) → k < 3 * s → getD after k 0 ≡ getD sets k 0
+      earlier k b = elsewhere sets s (row .left) (row .right) note k b
+
+      is : StoredIs φ l s row
+      is = r φ l u f g k p
+
+      entry : (x : ℕ) → (x ≡ s) ⊎ (x < s) → Entry φ l after x
+      entry x (inl q) = subst (Entry φ l after) (sym q) (record {
+        sides = rw (left-is, right-here sets s (row .left) (row .right) note room, note-is, users-noted who twin met met-fits twin-fits) (is .sides who a);
+        noted = rw (note-is, met-noted who twin met met-fits) k;
+        twin = rw (note-is, twin-noted who twin met met-fits twin-fits) p;
+        satisfied = ap satisfiedIn left-is ∙ is .satisfied;
+        possible = ap possibleIn left-is ∙ is .possible;
       })
-        where
-          is : StoredIs φ l s row
-          is = r φ l u f (λ y b. g y b .sides) (λ y b. (g y b .satisfied, g y b .possible)) k p
-      entry φ l u f a k p g x (inr q) =
+      entry x (inr q) =
           let b = g x q in
           record {
             sides = rw (earlier (3 * x) (omega arith), earlier (3 * x + 1) (omega arith), earlier (3 * x + 2) (omega arith)) (b .sides);
             noted = rw (earlier (3 * x + 2) (omega arith)) (b .noted);
             twin = rw (earlier (3 * x + 2) (omega arith)) (b .twin);
-            satisfied = getD-set-other (set (t .workspace) s low) (4096 + s) x high 0 (λ z. omega arith)
-                ∙ getD-set-other (t .workspace) s x low 0 (λ z. omega arith) ∙ b .satisfied;
-            possible = getD-set-other (set (t .workspace) s low) (4096 + s) (4096 + x) high 0 (λ z. omega arith)
-                ∙ getD-set-other (t .workspace) s (4096 + x) low 0 (λ z. omega arith) ∙ b .possible;
+            satisfied = ap satisfiedIn (earlier (3 * x) (omega arith)) ∙ b .satisfied;
+            possible = ap possibleIn (earlier (3 * x) (omega arith)) ∙ b .possible;
           }
 
 -- ── zeros ──
@@ -176,16 +207,41 @@ cleared-more n d a h c = record {
 pub cleared-all : (n m : ℕ) (d a : List ℕ) → n ≤ m → m ≤ n → Cleared n d a → Cleared m d a
 cleared-all n m d a h k c = let q : n ≡ m = omega arith in subst (λ x. Cleared x d a) q c
 
--- ── one action more ──
-kept-none : (n : ℕ) (l : List ℕ) → Kept n l l
-kept-none n l = record { low = λ k a b. refl; high = λ k a. refl }
+-- ── the rows written ──
+pub written-none : (sets d : List ℕ) → Written 0 sets d d
+written-none sets d = record { satisfied = λ x h. absurd (omega arith); possible = λ x h. absurd (omega arith); kept = record { low = λ k a b. refl; high = λ k a. refl } }
 
-pub kept-more : {m n : ℕ} {a b c : List ℕ} → m ≤ n → Kept m a b → Kept n b c → Kept n a c
-kept-more h p q = record {
-  low = λ k l b. q .low k l b ∙ p .low k (omega arith) b;
-  high = λ k l. q .high k l ∙ p .high k (omega arith);
+pub written-more : (n : ℕ) (sets d a : List ℕ) (low high : ℕ) → n < 4096 → 8192 ≤ length a → low ≡ satisfiedIn (leftAt sets n) → high ≡ possibleIn (leftAt sets n)
+    → Written n sets d a → Written (n + 1) sets d (set (set a n low) (4096 + n) high)
+written-more n sets d a low high h long is-low is-high w = record {
+  satisfied = λ x b. first x (eq-or-lt-of-le (le x b));
+  possible = λ x b. second x (eq-or-lt-of-le (le x b));
+  kept = record {
+    low = λ k b c. other k (λ q. omega arith) (λ q. omega arith) ∙ w .kept .low k (omega arith) c;
+    high = λ k b. other k (λ q. omega arith) (λ q. omega arith) ∙ w .kept .high k (omega arith);
+  };
 }
+  where
+    le : (x : ℕ) → x < n + 1 → x ≤ n
+    le x b = omega arith
 
+    other : (k : ℕ) → (k ≡ 4096 + n → ⊥) → (k ≡ n → ⊥) → getD (set (set a n low) (4096 + n) high) k 0 ≡ getD a k 0
+    other k p q = getD-set-other (set a n low) (4096 + n) k high 0 p ∙ getD-set-other a n k low 0 q
+
+    first : (x : ℕ) → (x ≡ n) ⊎ (x < n) → getD (set (set a n low) (4096 + n) high) x 0 ≡ satisfiedIn (leftAt sets x)
+    first x (inl q) = subst (λ y. getD (set (set a n low) (4096 + n) high) y 0 ≡ satisfiedIn (leftAt sets y)) (sym q)
+        (getD-set-other (set a n low) (4096 + n) n high 0 (λ z. omega arith) ∙ getD-set-same a n low 0 (omega arith) ∙ is-low)
+    first x (inr q) = other x (λ z. omega arith) (λ z. omega arith) ∙ w .satisfied x q
+
+    second : (x : ℕ) → (x ≡ n) ⊎ (x < n) → getD (set (set a n low) (4096 + n) high) (4096 + x) 0 ≡ possibleIn (leftAt sets x)
+    second x (inl q) = subst (λ y. getD (set (set a n low) (4096 + n) high) (4096 + y) 0 ≡ possibleIn (leftAt sets y)) (sym q)
+        (getD-set-same (set a n low) (4096 + n) high 0 (omega (arith, length-set a n low)) ∙ is-high)
+    second x (inr q) = other (4096 + x) (λ z. omega arith) (λ z. omega arith) ∙ w .possible x q
+
+pub written-all : {sets d a : List ℕ} (n m : ℕ) → n ≤ m → m ≤ n → Written n sets d a → Written m sets d a
+written-all {sets} {d} {a} n m h k w = let q : n ≡ m = omega arith in subst (λ x. Written x sets d a) q w
+
+-- ── one action more ──
 all-append : {A : Type 0} (f : A → Bool) (l m : List A) → all f (l ++ m) ≡ (all f l && all f m)
 all-append f [] m = refl
 all-append f (x ∷ l) m = ap (λ b. f x && b) (all-append f l m) ∙ sym (and-assoc (f x) (all f l) (all f m))
@@ -193,44 +249,29 @@ all-append f (x ∷ l) m = ap (λ b. f x && b) (all-append f l m) ∙ sym (and-a
 eqb-swap : (m n : ℕ) → eqb m n ≡ eqb n m
 eqb-swap m n = same-test (eqb m n) (eqb n m) (λ e. eq-so n m (sym (so-eq m n e))) (λ e. eq-so m n (sym (so-eq n m e)))
 
--- the tables keep their lengths
-pub record Same (t t′ : Tables) : Type 0 where
-  pub sets : length (t′ .sets) ≡ length (t .sets)
-  pub workspace : length (t′ .workspace) ≡ length (t .workspace)
-
-pub same-refl : (t : Tables) → Same t t
-same-refl t = record { sets = refl; workspace = refl }
-
-pub same-trans : {t t′ t″ : Tables} → Same t t′ → Same t′ t″ → Same t t″
-same-trans p q = record { sets = q .sets ∙ p .sets; workspace = q .workspace ∙ p .workspace }
-
--- tables of the same lengths have a place for as many sets or fewer
-pub long-same : {k n : ℕ} {t t′ : Tables} → k ≤ n → Long n t → Same t t′ → Long k t′
-long-same h n s = record { sets = omega (arith, n .sets, s .sets); workspace = omega (arith, n .workspace, s .workspace) }
-
--- a new table with a place for every set of n actions, and a workspace
-pub long-blank : {k : ℕ} (n : ℕ) {workspace : List ℕ} → k ≤ n → 8192 ≤ length workspace → Long (2 ^ k) (tables (replicate (3 * 2 ^ n) 0) workspace)
-long-blank {k} n h w = record { sets = omega (arith, length-replicate {A = ℕ} (3 * 2 ^ n) 0, pow-mono {i = k} h); workspace = w }
+-- a new table with a place for every set of n actions
+pub long-blank : {k : ℕ} (n : ℕ) → k ≤ n → 3 * 2 ^ k ≤ length {A = ℕ} (replicate (3 * 2 ^ n) 0)
+long-blank {k} n h = omega (arith, length-replicate {A = ℕ} (3 * 2 ^ n) 0, pow-mono {i = k} h)
 
 -- where the loop over the sets t of the actions before place j is
-pub record Adding (m : Masks) (ops : List ℕ) (j : ℕ) (a : Action) (alike : ℕ) (before after : Tables) (user top t : ℕ) : Type 0 where
+pub record Adding (m : Masks) (ops : List ℕ) (j : ℕ) (a : Action) (alike : ℕ) (before after : List ℕ) (user top t : ℕ) : Type 0 where
   pub is-user : user ≡ 2 ^ a .user
   pub is-top : top ≡ 2 ^ j
   pub bound : t ≤ top
-  pub lengths : Same before after
+  pub lengths : length after ≡ length before
   pub added : Added m ops j a alike (top + t) before after
 
-module _ (m : Masks) (ops : List ℕ) (j : ℕ) (a : Action) (alike : ℕ) (T : Tables) (user top : ℕ) where
+module _ (m : Masks) (ops : List ℕ) (j : ℕ) (a : Action) (alike : ℕ) (T : List ℕ) (user top : ℕ) where
   pub add-begin : user ≡ 2 ^ a .user → top ≡ 2 ^ j → Adding m ops j a alike T T user top 0
   add-begin p q = let z : 2 ^ j ≡ top + 0 = omega arith in record {
     is-user = p;
     is-top = q;
     bound = omega arith;
-    lengths = same-refl T;
-    added = record { known = λ φ l u h e s k. subst (Known φ l T) z k; kept = kept-none (top + 0) (T .workspace) };
+    lengths = refl;
+    added = λ φ l u h e s k. subst (Known φ l T) z k;
   }
 
-  module _ (t : ℕ) (T′ : Tables) (g : Adding m ops j a alike T T′ user top t) (h : t < top) where
+  module _ (t : ℕ) (T′ : List ℕ) (g : Adding m ops j a alike T T′ user top t) (h : t < top) where
     pub add-next : Next (top + t) t
     add-next = record { last = j; is = ap (λ n. n + t) (g .is-top); below = subst (λ n. t < n) (g .is-top) h }
 
@@ -240,25 +281,22 @@ module _ (m : Masks) (ops : List ℕ) (j : ℕ) (a : Action) (alike : ℕ) (T : 
     pub add-below : j < 12 → top + t < 4096
     add-below b = omega (arith, add-room, pow-mono {i = j + 1} {j = 12} (omega arith))
 
-    pub add-turn : (T″ : Tables) (who met old twin : ℕ) → who ≡ usersIn (noteAt (T′ .sets) t) → met ≡ metIn (noteAt (T′ .sets) t) → old ≡ twinIn (noteAt (T′ .sets) t)
-        → Same T′ T″ → Twin alike top t old twin → Entered m ops (top + t) (bitOr who user) (bitAnd met (a .met)) twin T′ T″ → Adding m ops j a alike T T″ user top (t + 1)
+    pub add-turn : (T″ : List ℕ) (who met old twin : ℕ) → who ≡ usersIn (noteAt T′ t) → met ≡ metIn (noteAt T′ t) → old ≡ twinIn (noteAt T′ t)
+        → length T″ ≡ length T′ → Twin alike top t old twin → Entered m ops (top + t) (bitOr who user) (bitAnd met (a .met)) twin T′ T″ → Adding m ops j a alike T T″ user top (t + 1)
     add-turn T″ who met old twin is-who is-met is-old s w e = let z : top + t + 1 ≡ top + (t + 1) = omega arith in record {
       is-user = g .is-user;
       is-top = g .is-top;
       bound = omega arith;
-      lengths = same-trans (g .lengths) s;
-      added = subst (λ n. Added m ops j a alike n T T″) z (record {
-        known = known;
-        kept = kept-more (omega arith) (g .added .kept) (e .kept);
-      });
+      lengths = s ∙ g .lengths;
+      added = subst (λ n. Added m ops j a alike n T T″) z known;
     }
       where
         known : (φ : Term) (l : List Action) → Suited φ m ops → j < length l → getD l j (record { user = 0; met = 0 }) ≡ a → AlikePlaces l j alike
             → Known φ l T (2 ^ j) → Known φ l T″ (top + t + 1)
-        known φ l u b d s k = e .known φ l u fits acting noted alike-set before
+        known φ l u b d s k = e φ l u fits acting noted alike-set before
           where
             before : Known φ l T′ (top + t)
-            before = g .added .known φ l u b d s k
+            before = g .added φ l u b d s k
 
             fits : top + t < 2 ^ length l
             fits = omega (arith, g .is-top, pow-suc 2 j, pow-mono {i = suc j} {j = length l} b)
@@ -283,7 +321,7 @@ module _ (m : Masks) (ops : List ℕ) (j : ℕ) (a : Action) (alike : ℕ) (T : 
                 ∙ ap₂ _&&_ (ap (bit i) is-met ∙ before t (omega arith) .noted i c) (sym (and-true (bit i (a .met))))
                 ∙ sym (ap (all (λ x. bit i (x .met))) chosen ∙ all-append (λ (x : Action). bit i (x .met)) (select t l) (a ∷ []))
 
-  pub add-end : (t : ℕ) (T′ : Tables) → Adding m ops j a alike T T′ user top t → top ≤ t → Added m ops j a alike (2 ^ (j + 1)) T T′
+  pub add-end : (t : ℕ) (T′ : List ℕ) → Adding m ops j a alike T T′ user top t → top ≤ t → Added m ops j a alike (2 ^ (j + 1)) T T′
   add-end t T′ g l =
       let s : j + 1 ≡ suc j = omega arith in
       let e : top + t ≡ 2 ^ (j + 1) = omega (arith, g .is-top, g .bound, pow-suc 2 j, ap (λ n. 2 ^ n) s) in
@@ -291,25 +329,36 @@ module _ (m : Masks) (ops : List ℕ) (j : ℕ) (a : Action) (alike : ℕ) (T : 
 
 -- ── all actions ──
 -- where the loop over the actions is
-pub record AddingAll (m : Masks) (ops : List ℕ) (l : List Action) (taken : ℕ) (before after : Tables) (j : ℕ) : Type 0 where
+pub record AddingAll (m : Masks) (ops : List ℕ) (l : List Action) (taken : ℕ) (before after : List ℕ) (j : ℕ) : Type 0 where
   pub bound : j ≤ taken
-  pub lengths : Same before after
-  pub added : AddedAll m ops l (2 ^ j) before after
+  pub lengths : length after ≡ length before
+  pub added : AddedAll m ops l (2 ^ j) after
 
-module _ (m : Masks) (ops : List ℕ) (l : List Action) (taken : ℕ) (T : Tables) where
-  pub all-begin : AddingAll m ops l taken T T 0
-  all-begin = record { bound = omega arith; lengths = same-refl T; added = record { known = λ φ u k. k; kept = kept-none 1 (T .workspace) } }
-
-  pub all-turn : (T′ T″ : Tables) (j alike : ℕ) → AddingAll m ops l taken T T′ j → j < taken → j < length l → Same T′ T″
-      → AlikePlaces l j alike → Added m ops j (getD l j (record { user = 0; met = 0 })) alike (2 ^ (j + 1)) T′ T″ → AddingAll m ops l taken T T″ (j + 1)
-  all-turn T′ T″ j alike f h b s w a = record {
+module _ (m : Masks) (ops : List ℕ) (l : List Action) (taken : ℕ) (T : List ℕ) where
+  -- the empty set is entered
+  pub all-begin : (T₀ : List ℕ) → Entered m ops 0 0 4294967295 0 T₀ T → AddingAll m ops l taken T T 0
+  all-begin T₀ e = record {
     bound = omega arith;
-    lengths = same-trans (f .lengths) s;
-    added = record {
-      known = λ φ u k. a .known φ l u b refl w (f .added .known φ u k);
-      kept = kept-more (pow-mono {j = j + 1} (omega arith)) (f .added .kept) (a .kept);
-    };
+    lengths = refl;
+    added = λ φ u. e φ l u (pow-pos (length l))
+        (λ v. bit-of-zero v ∙ sym (ap (λ k. acts (λ (a : Action). a .user) v k) (select-none l)))
+        (λ i h. bit-ones 32 i ∙ lt-ltb i 32 h ∙ sym (ap (all (λ (a : Action). bit i (a .met))) (select-none l)))
+        (Perm·refl (select 0 l))
+        (λ x h. absurd (omega arith));
   }
 
-  pub all-end : (T′ : Tables) (j : ℕ) → AddingAll m ops l taken T T′ j → taken ≤ j → AddedAll m ops l (2 ^ taken) T T′
-  all-end T′ j f h = let e : j ≡ taken = omega (arith, f .bound) in subst (λ n. AddedAll m ops l (2 ^ n) T T′) e (f .added)
+  pub all-turn : (T′ T″ : List ℕ) (j alike : ℕ) → AddingAll m ops l taken T T′ j → j < taken → j < length l → length T″ ≡ length T′
+      → AlikePlaces l j alike → Added m ops j (getD l j (record { user = 0; met = 0 })) alike (2 ^ (j + 1)) T′ T″ → AddingAll m ops l taken T T″ (j + 1)
+  all-turn T′ T″ j alike f h b s w a = record { bound = omega arith; lengths = s ∙ f .lengths; added = λ φ u. a φ l u b refl w (f .added φ u) }
+
+  pub all-end : (T′ : List ℕ) (j : ℕ) → AddingAll m ops l taken T T′ j → taken ≤ j → AddedAll m ops l (2 ^ taken) T′
+  all-end T′ j f h = let e : j ≡ taken = omega (arith, f .bound) in subst (λ n. AddedAll m ops l (2 ^ n) T′) e (f .added)
+
+-- all sets entered and their rows written
+pub rows-stand : {m : Masks} {ops : List ℕ} {l : List Action} {sets before after : List ℕ} (n k : ℕ) → k ≡ n → AddedAll m ops l n sets → Written k sets before after
+    → RowsStand m ops l n before after
+rows-stand {sets = sets} {before = before} {after = after} n k e a v = let w = subst (λ x. Written x sets before after) e v in record {
+  satisfied = λ φ u x b. w .satisfied x b ∙ a φ u x b .satisfied;
+  possible = λ φ u x b. w .possible x b ∙ a φ u x b .possible;
+  kept = w .kept;
+}

@@ -54,7 +54,17 @@ twinIn note = note / 4294967296 % 65536
 abbrev pub usersIn : ℕ → ℕ
 usersIn note = note / 281474976710656
 
--- the set x has three numbers: its row's digits at the words' left sides, those at the right sides, and its note
+-- a row turned by one digit has the digits of the words' left sides, and its first digit stands last; and what the columns of such a row are
+abbrev pub turnedRow : ℕ → ℕ
+turnedRow row = row / 2 + 9223372036854775808 * (row % 2)
+
+abbrev pub satisfiedIn : ℕ → ℕ
+satisfiedIn left = 2 * (left % 2147483648) + left / 9223372036854775808
+
+abbrev pub possibleIn : ℕ → ℕ
+possibleIn left = left / 2147483648 % 4294967296
+
+-- the set x has three numbers: its turned row, its row's digits at the words' right sides, and its note
 abbrev pub leftAt : List ℕ → ℕ → ℕ
 leftAt sets x = getD sets (3 * x) 0
 
@@ -206,42 +216,43 @@ RowOf m ops sets met s row row-right =
     (φ : Term) (l : List Action) → Suited φ m ops → s < 2 ^ length l → ((x : ℕ) → x < s → SidesAt φ l sets x) → Noted (select s l) met
     → RowIs φ (select s l) row row-right
 
+-- what stands in the table for the set x of the actions l
+pub record Entry (φ : Term) (l : List Action) (sets : List ℕ) (x : ℕ) : Type 0 where
+  pub sides : SidesAt φ l sets x
+  pub noted : Noted (select x l) (metIn (noteAt sets x))
+  pub twin : Perm (select (twinIn (noteAt sets x)) l) (select x l)
+  pub satisfied : satisfiedIn (leftAt sets x) ≡ rowOf false φ l x
+  pub possible : possibleIn (leftAt sets x) ≡ rowOf true φ l x
+
+abbrev pub Known : Term → List Action → List ℕ → ℕ → Type 0
+Known φ l sets n = (x : ℕ) → x < n → Entry φ l sets x
+
 -- what is stored of the row of the set s
 pub record StoredIs (φ : Term) (l : List Action) (s : ℕ) (r : Stored) : Type 0 where
   pub sides : (users : ℕ) → Acting (select s l) users → Sides φ (select s l) (r .left) (r .right) users
-  pub satisfied : r .satisfied ≡ rowOf false φ l s
-  pub possible : r .possible ≡ rowOf true φ l s
+  pub satisfied : satisfiedIn (r .left) ≡ rowOf false φ l s
+  pub possible : possibleIn (r .left) ≡ rowOf true φ l s
 
--- so it must be where all sets before s are stored and `twin` has the actions of s
-abbrev pub StoredOf : Masks → List ℕ → List ℕ → List ℕ → ℕ → ℕ → ℕ → Stored → Type 0
-StoredOf m ops sets workspace met s twin r =
-    (φ : Term) (l : List Action) → Suited φ m ops → s < 2 ^ length l → ((x : ℕ) → x < s → SidesAt φ l sets x)
-    → ((x : ℕ) → x < s → (getD workspace x 0 ≡ rowOf false φ l x) × (getD workspace (4096 + x) 0 ≡ rowOf true φ l x))
-    → Noted (select s l) met → Perm (select twin l) (select s l) → StoredIs φ l s r
+-- so it must be where all sets before s are entered and `twin` has the actions of s
+abbrev pub StoredOf : Masks → List ℕ → List ℕ → ℕ → ℕ → ℕ → Stored → Type 0
+StoredOf m ops sets met s twin r =
+    (φ : Term) (l : List Action) → Suited φ m ops → s < 2 ^ length l → Known φ l sets s → Noted (select s l) met → Perm (select twin l) (select s l) → StoredIs φ l s r
 
--- the table of sets, and the workspace
-pub record Tables : Type 0 where
-  pub sets : List ℕ
-  pub workspace : List ℕ
+-- the set s is entered too: its users are `who`, its actions all met `met`, and they are those of `twin`
+abbrev pub Entered : Masks → List ℕ → ℕ → ℕ → ℕ → ℕ → List ℕ → List ℕ → Type 0
+Entered m ops s who met twin sets sets′ =
+    (φ : Term) (l : List Action) → Suited φ m ops → s < 2 ^ length l → Acting (select s l) who → Noted (select s l) met → Perm (select twin l) (select s l)
+    → Known φ l sets s → Known φ l sets′ (s + 1)
 
-abbrev pub tables : List ℕ → List ℕ → Tables
-tables sets workspace = record { sets = sets; workspace = workspace }
+-- the sets below n are entered, for actions of which `a` stands at place j and at those of `alike`
+abbrev pub Added : Masks → List ℕ → ℕ → Action → ℕ → ℕ → List ℕ → List ℕ → Type 0
+Added m ops j a alike n sets sets′ =
+    (φ : Term) (l : List Action) → Suited φ m ops → j < length l → getD l j (record { user = 0; met = 0 }) ≡ a → AlikePlaces l j alike
+    → Known φ l sets (2 ^ j) → Known φ l sets′ n
 
--- each has a place for every set below n
-pub record Long (n : ℕ) (t : Tables) : Type 0 where
-  pub sets : 3 * n ≤ length (t .sets)
-  pub workspace : 8192 ≤ length (t .workspace)
-
--- what stands in the tables for the set x of the actions l
-pub record Entry (φ : Term) (l : List Action) (t : Tables) (x : ℕ) : Type 0 where
-  pub sides : SidesAt φ l (t .sets) x
-  pub noted : Noted (select x l) (metIn (noteAt (t .sets) x))
-  pub twin : Perm (select (twinIn (noteAt (t .sets) x)) l) (select x l)
-  pub satisfied : getD (t .workspace) x 0 ≡ rowOf false φ l x
-  pub possible : getD (t .workspace) (4096 + x) 0 ≡ rowOf true φ l x
-
-abbrev pub Known : Term → List Action → Tables → ℕ → Type 0
-Known φ l t n = (x : ℕ) → x < n → Entry φ l t x
+-- the sets below n of the actions l are entered
+abbrev pub AddedAll : Masks → List ℕ → List Action → ℕ → List ℕ → Type 0
+AddedAll m ops l n sets = (φ : Term) → Suited φ m ops → Known φ l sets n
 
 -- the first n words are zero, and the others stay
 pub record Cleared (n : ℕ) (before after : List ℕ) : Type 0 where
@@ -253,22 +264,11 @@ pub record Kept (n : ℕ) (before after : List ℕ) : Type 0 where
   pub low : (k : ℕ) → n ≤ k → k < 4096 → getD after k 0 ≡ getD before k 0
   pub high : (k : ℕ) → 4096 + n ≤ k → getD after k 0 ≡ getD before k 0
 
--- the set s is entered too: its users are `who`, its actions all met `met`, and they are those of `twin`
-pub record Entered (m : Masks) (ops : List ℕ) (s who met twin : ℕ) (t t′ : Tables) : Type 0 where
-  pub known : (φ : Term) (l : List Action) → Suited φ m ops → s < 2 ^ length l → Acting (select s l) who → Noted (select s l) met
-      → Perm (select twin l) (select s l) → Known φ l t s → Known φ l t′ (s + 1)
-  pub kept : Kept (s + 1) (t .workspace) (t′ .workspace)
-
--- the sets below n are entered, for actions of which `a` stands at place j and at those of `alike`
-pub record Added (m : Masks) (ops : List ℕ) (j : ℕ) (a : Action) (alike n : ℕ) (t t′ : Tables) : Type 0 where
-  pub known : (φ : Term) (l : List Action) → Suited φ m ops → j < length l → getD l j (record { user = 0; met = 0 }) ≡ a → AlikePlaces l j alike
-      → Known φ l t (2 ^ j) → Known φ l t′ n
-  pub kept : Kept n (t .workspace) (t′ .workspace)
-
--- the sets below n are entered, where the empty set was
-pub record AddedAll (m : Masks) (ops : List ℕ) (l : List Action) (n : ℕ) (t t′ : Tables) : Type 0 where
-  pub known : (φ : Term) → Suited φ m ops → Known φ l t 1 → Known φ l t′ n
-  pub kept : Kept n (t .workspace) (t′ .workspace)
+-- the rows of the sets below n are written to the workspace, which keeps its other words
+pub record Written (n : ℕ) (sets before after : List ℕ) : Type 0 where
+  pub satisfied : (x : ℕ) → x < n → getD after x 0 ≡ satisfiedIn (leftAt sets x)
+  pub possible : (x : ℕ) → x < n → getD after (4096 + x) 0 ≡ possibleIn (leftAt sets x)
+  pub kept : Kept n before after
 
 -- the workspace has the rows of the sets below n, and keeps its other words
 pub record RowsStand (m : Masks) (ops : List ℕ) (l : List Action) (n : ℕ) (before after : List ℕ) : Type 0 where

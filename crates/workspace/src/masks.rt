@@ -2,7 +2,7 @@
 ghost use mathlib.Core.Path.{_≡_};
 ghost use Prim.Native.Nat.{ℕ, _+_, _≤_, _<_};
 ghost use Rattle.soda.specs.Bits.{bit};
-ghost use Rattle.workspace.specs.Private.{Packed, Masked};
+ghost use Rattle.workspace.specs.Private.{turnedRow, satisfiedIn, possibleIn, Packed, Masked};
 use policy::Shape;
 
 // The words that go by each row of the table, in both columns; first is the row of the empty set.
@@ -46,4 +46,25 @@ pub(crate) fn masks_of(shape: Shape) -> Masks
         joint: packed(joint, joint),
         anyone: packed(shape.together, shape.together),
     }
+}
+
+// A row turned by one digit: each word's digits stand where those of the word before it stood, and the first digit last.
+pub(crate) fn turned(row: u64) -> u64
+    ensures { λ r. ⌜ r ≡ turnedRow row ⌝ }
+{
+    row / 2 + 0x8000_0000_0000_0000 * (row % 2)
+}
+
+// The column of satisfied, from a turned row.
+pub(crate) fn satisfied_in(left: u64) -> u32
+    ensures { λ r. ⌜ r ≡ satisfiedIn left ⌝ }
+{
+    (2 * (left % 0x8000_0000) + left / 0x8000_0000_0000_0000) as u32
+}
+
+// The column of possible, from a turned row.
+pub(crate) fn possible_in(left: u64) -> u32
+    ensures { λ r. ⌜ r ≡ possibleIn left ⌝ }
+{
+    (left / 0x8000_0000 % 0x1_0000_0000) as u32
 }

@@ -1,23 +1,23 @@
 -- The invariant: the sets of the actions before place j, and those below t with the action there, are entered.
-use Prim.Native.Nat.{_+_, _-_, _*_, _%_, _<_, _^_}
+use Prim.Native.Nat.{_+_, _-_, _*_, _%_, _≤_, _<_, _^_}
 use native.Mathlib.Omega.{arith}
+use lib.ListN.{length}
 use borrow.Author.Count.{falls}
 use borrow.Author.Needs.{needs}
-use Rattle.workspace.specs.Private.{tables, Long}
 use Rattle.soda.proofs.Bits.{one-shl}
-use Rattle.workspace.proofs.Entries.{Adding, add-begin, add-next, add-room, add-below, add-turn, add-end, long-same}
+use Rattle.workspace.proofs.Entries.{Adding, add-begin, add-next, add-room, add-below, add-turn, add-end}
 use Rattle.workspace.proofs.tables.add.Statement.{statement}
 use Rattle.workspace.proofs.tables.add.Tie as tie
 
 abbrev Inv-loop : tie.InvT-loop
-Inv-loop m ops j a alike sets₀ workspace₀ user top t₀ sets workspace t = Adding m ops j a alike (tables sets₀ workspace₀) (tables sets workspace) user top t
+Inv-loop m ops j a alike sets₀ user top t₀ sets t = Adding m ops j a alike sets₀ sets user top t
 
 abbrev μ-loop : tie.MeasureT-loop
-μ-loop m ops j a alike sets₀ workspace₀ user top t₀ sets workspace t = top - t
+μ-loop m ops j a alike sets₀ user top t₀ sets t = top - t
 
 -- the start; in a turn, where the note is unpacked, its twin found and the set entered
 abbrev given : tie.After-struct-known Inv-loop μ-loop → tie.Start Inv-loop μ-loop
-given c = c .before .before .before .before
+given c = c .before .before .before
 
 abbrev start : tie.At-loop Inv-loop μ-loop → tie.Start Inv-loop μ-loop
 start c = given (c .before)
@@ -28,27 +28,26 @@ met-read c = c .before .before .before
 abbrev turn : tie.After-met-in Inv-loop μ-loop → tie.In-loop Inv-loop μ-loop
 turn c = c .before .before .before
 
-abbrev twinned : tie.After-enter-arg2 Inv-loop μ-loop → tie.After-twin-of Inv-loop μ-loop
-twinned c = c .before .before
-
-abbrev entered : tie.After-slice-known5 Inv-loop μ-loop → tie.After-enter Inv-loop μ-loop
-entered c = c .before .before .before .before
+abbrev entered : tie.After-slice-known3 Inv-loop μ-loop → tie.After-enter Inv-loop μ-loop
+entered c = c .before .before
 
 -- a turn, from its end
-abbrev turned : tie.After-slice-known5 Inv-loop μ-loop → tie.In-loop Inv-loop μ-loop
-turned c = turn (met-read (twinned (entered c .before)))
+abbrev turned : tie.After-slice-known3 Inv-loop μ-loop → tie.In-loop Inv-loop μ-loop
+turned c = turn (met-read (entered c .before .before))
 
 loop-holds : tie.Need-loop-holds Inv-loop μ-loop
 loop-holds c =
     let s = given c in
     add-begin _ _ _ _ _ _ _ _ (one-shl 16 (s .args .a .user) (s .pre .1)) (one-shl 64 (s .args .j) (omega arith))
 
--- the set of this turn has a place, and the tables are as long as they were
+-- the set of this turn has a place, and the table is as long as it was
 below : (c : tie.In-loop Inv-loop μ-loop) → 1 * 2 ^ start (c .before) .args .j % 2 ^ 64 + c .before .loop .t < 4096
 below c = add-below _ _ _ _ _ _ _ _ _ _ (c .before .loop .inv) (c .loop-test .taken) (start (c .before) .pre .0)
 
-long : (c : tie.In-loop Inv-loop μ-loop) → let at = c .before .loop in Long (1 * 2 ^ start (c .before) .args .j % 2 ^ 64 + at .t + 1) (tables (at .sets) (at .workspace))
-long c = long-same (add-room _ _ _ _ _ _ _ _ _ _ (c .before .loop .inv) (c .loop-test .taken)) (start (c .before) .pre .4) (c .before .loop .inv .lengths)
+long : (c : tie.In-loop Inv-loop μ-loop) → let at = c .before .loop in 3 * (1 * 2 ^ start (c .before) .args .j % 2 ^ 64 + at .t + 1) ≤ length (at .sets)
+long c =
+    let at = c .before .loop in
+    omega (arith, add-room _ _ _ _ _ _ _ _ _ _ (at .inv) (c .loop-test .taken), start (c .before) .pre .4, at .inv .lengths)
 
 twin-of-requires : tie.Need-twin-of-requires Inv-loop μ-loop
 twin-of-requires c κs =
@@ -57,20 +56,18 @@ twin-of-requires c κs =
 
 enter-requires : tie.Need-enter-requires Inv-loop μ-loop
 enter-requires c κs =
-    let twin = twinned c in
+    let twin = c .before in
     let t = turn (met-read twin) in
     (below t, twin .twin-of .ensures .0, start (t .before) .pre .3, λ h. add-next _ _ _ _ _ _ _ _ _ _ (t .before .loop .inv) (t .loop-test .taken), long t)
 
 loop-again : tie.Need-loop-again Inv-loop μ-loop
 loop-again c =
     let set = entered c .enter in
-    let twin = twinned (entered c .before) in
+    let twin = entered c .before .before in
     let met = met-read twin in
     let t = turn met in
-    add-turn _ _ _ _ _ _ _ _ _ _ (t .before .loop .inv) (t .loop-test .taken) (tables (set .last .1 .1 .1 .1 .1 .1 .1 .0) (set .last .1 .1 .1 .1 .1 .1 .1 .1 .0)) _ _ _ _
-    (met .before .users-in .ensures) (met .met-in .ensures) (twin .before .twin-in .ensures)
-    (record { sets = set .kept .1 .1 .1 .1 .1 .1 .1 .0; workspace = set .kept .1 .1 .1 .1 .1 .1 .1 .1 .0 })
-    (twin .twin-of .ensures .1) (set .ensures)
+    add-turn _ _ _ _ _ _ _ _ _ _ (t .before .loop .inv) (t .loop-test .taken) (set .last .1 .1 .1 .1 .1 .1 .1 .0) _ _ _ _
+    (met .before .users-in .ensures) (met .met-in .ensures) (twin .before .twin-in .ensures) (set .kept .1 .1 .1 .1 .1 .1 .1 .0) (twin .twin-of .ensures .1) (set .ensures)
 
 pub add-spec : {M : Type 1} → statement M
 add-spec =
@@ -85,7 +82,7 @@ add-spec =
     (λ c. record { fits = omega (arith, below c) })
     (λ c. record { fits = omega (arith, below c) })
     (λ c. record { fits = omega (arith, below c) })
-    (λ c. omega (arith, below (c .before), long (c .before) .sets))
+    (λ c. omega (arith, below (c .before), long (c .before)))
     (λ c κs. search needs)
     (λ c κs. search needs)
     (λ c κs. search needs)
@@ -95,6 +92,5 @@ add-spec =
     (λ c. record { fits = omega (arith, below (turned c)) })
     (λ c. falls _ _ (turned c .loop-test .taken))
     loop-again
-    (λ c. c .before .loop .inv .lengths .sets)
-    (λ c. c .before .loop .inv .lengths .workspace)
+    (λ c. c .before .loop .inv .lengths)
     (λ c. add-end _ _ _ _ _ _ _ _ _ _ (c .before .loop .inv) (c .loop-test .left)))

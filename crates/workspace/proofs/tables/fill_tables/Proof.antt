@@ -1,47 +1,48 @@
--- The empty set needs one place, and its row needs no other.
-use native.Mathlib.Nat.{le-refl}
+-- Of the sets that were entered, the rows are written.
+use mathlib.Core.Path.{_≡_}
+use Prim.Native.Nat.{_*_, _%_, _≤_, _^_}
 use native.Mathlib.Omega.{arith}
-use lib.Pow.{pow-pos}
+use lib.Pow.{pow-mono}
 use borrow.Author.Needs.{needs}
-use Rattle.workspace.specs.Private.{tables}
-use Rattle.workspace.proofs.Entries.{same-refl, long-same}
-use Rattle.workspace.proofs.Columns.{rows-stand}
+use Rattle.soda.proofs.Bits.{one-shl}
+use Rattle.workspace.proofs.Entries.{rows-stand}
 use Rattle.workspace.proofs.tables.fill_tables.Statement.{statement}
 use Rattle.workspace.proofs.tables.fill_tables.Tie as tie
 
--- the start; where the empty set is entered, and where the others are
-abbrev start : tie.After-enter-arg2 → tie.Start
+-- the start, and where the sets are entered
+abbrev start : tie.After-add-all → tie.Start
 start c = c .before .before .before .before .before
 
-abbrev first : tie.After-add-all-arg2 → tie.After-enter
-first c = c .before .before .before .before .before .before
+abbrev entered : tie.After-write-rows-arg → tie.After-add-all
+entered c = c .before .before .before
 
-abbrev others : tie.After-slice-known6 → tie.After-add-all
-others c = c .before .before .before .before
+abbrev written : tie.After-slice-known4 → tie.After-write-rows
+written c = c .before .before
 
-enter-requires : tie.Need-enter-requires
-enter-requires c κs =
-    let p = start c .pre in
-    (omega arith, omega arith, p .2, λ h. absurd (omega arith), long-same (pow-pos (start c .args .taken)) (p .3) (same-refl _))
+-- how many sets there are
+count : (c : tie.After-add-all) → let n = start c .args .taken in 1 * 2 ^ n % 2 ^ 64 ≡ 2 ^ n
+count c = one-shl 64 (start c .args .taken) (omega (arith, start c .pre .0))
 
-add-all-requires : tie.Need-add-all-requires
-add-all-requires c κs =
-    let p = start (first c .before) .pre in
-    let kept = first c .enter .kept in
-    (p .0, p .1, p .2, long-same (le-refl _) (p .3) (record { sets = kept .1 .1 .1 .1 .1 .1 .1 .0; workspace = kept .1 .1 .1 .1 .1 .1 .1 .1 .0 }))
+write-rows-requires : tie.Need-write-rows-requires
+write-rows-requires c κs =
+    let e = entered (c .before) in
+    let p = start e .pre in
+    let room : 2 ^ start e .args .taken ≤ 4096 = pow-mono {j = 12} (p .0) in
+    (omega (arith, room, count e), omega (arith, count e, p .3, e .add-all .kept .1 .1 .1 .1 .0), p .4)
 
 returns : tie.Need-returns
 returns c =
-    let empty = first (others c .before) in
-    let set = empty .enter in
-    rows-stand {first = tables (set .last .1 .1 .1 .1 .1 .1 .1 .0) (set .last .1 .1 .1 .1 .1 .1 .1 .1 .0)} (start (empty .before) .args .taken) (set .ensures) (others c .add-all .ensures)
+    let w = written c in
+    let e = entered (w .before .before) in
+    rows-stand (2 ^ start e .args .taken) (1 * 2 ^ start e .args .taken % 2 ^ 64) (count e) (e .add-all .ensures) (w .write-rows .ensures)
 
 pub fill-tables-spec : {M : Type 1} → statement M
 fill-tables-spec =
     tie.close
     (tie.spec
-    enter-requires
-    add-all-requires
+    (λ c κs. search needs)
+    (λ c. search needs)
+    write-rows-requires
     (λ c. search needs)
     (λ c. search needs)
     returns)
