@@ -1,19 +1,20 @@
 -- The loop over the parts of t, where s is t with one action more: each part of s, or else the rest of s without it, is a part of t,
 -- so the loop that takes both meets every part of s. It walks by a, (a - 1) & high, .. over the parts of `high`, which is t without
 -- its lowest action, and takes each with and without that action.
-use mathlib.Core.Path.{_≡_, refl, sym, _∙_, ap, subst}
-use mathlib.Core.Bool.{Bool, true, false, So, _&&_, _||_, cond, true≢false, and-true, or-true, and-or-distrib-right}
+use mathlib.Core.Path.{_≡_, refl, sym, _∙_, ap, ap₂, subst}
+use mathlib.Core.Bool.{Bool, true, false, So, _&&_, _||_, cond, true≢false, and-true, or-true, or-assoc, and-or-distrib-right}
 use mathlib.Core.List.{List}
 use mathlib.Core.Logic.{_⊎_, inl, inr, ⊎-elim}
-use Prim.Native.Nat.{ℕ, zero, suc, _+_, _-_, _^_, _≤_, _<_}
+use Prim.Native.Nat.{ℕ, zero, suc, _+_, _-_, _*_, _^_, _≤_, _<_}
 use native.Mathlib.Omega.{arith}
 use lib.Bits.{bitAnd, bitOr, and-self, and-comm, and-zero-l}
 use lib.Dec.{eqb}
+use lib.ListN.{getD}
 use lib.Pow.{pow-pos}
 use Rattle.soda.specs.Bits.{bit}
 use Rattle.soda.proofs.Bools.{and-split, and-join, or-split, or-left, or-right, Order, less, same, more, order}
 use Rattle.soda.proofs.Bits.{bit-of-zero}
-use Rattle.workspace.specs.Private.{usersIn, leftAt, rightAt, noteAt, Part, Parted, Joined, Next, matched, allowed, matchedApart}
+use Rattle.workspace.specs.Private.{usersIn, leftAt, rightAt, noteAt, Part, PartAt, Parted, Gathered, Joined, Next, matched, allowed, matchedApart}
 use Rattle.workspace.proofs.Digits.{lt-or-le, bit-and, bit-or}
 use Rattle.workspace.proofs.Submask.{Within, Lowest, lowest, within-le, and-within, rest-within, walk, within-more, within-less}
 
@@ -30,8 +31,8 @@ module _ (f : ℕ → ℕ → Bool) (s t : ℕ) (n : Next s t) where
       }
 
   -- what a part of t or the rest of s without it has
-  of-part : (a r : ℕ) → 0 < a → Within a t → Parted f s a r → (q : ℕ) → So (bit q r) → (x : ℕ) × Part x s × So (f x q)
-  of-part a r h w e q b = ⊎-elim (λ c. (a, p, c)) (λ c. (s - a, rest, c)) (or-split (f a q) (f (s - a) q) (sym (e q) ∙ b))
+  of-part : (a : ℕ) → 0 < a → Within a t → (q : ℕ) → So (f a q || f (s - a) q) → (x : ℕ) × Part x s × So (f x q)
+  of-part a h w q b = ⊎-elim (λ c. (a, p, c)) (λ c. (s - a, rest, c)) (or-split (f a q) (f (s - a) q) b)
     where
       p : Part a s
       p = part a h w
@@ -78,7 +79,7 @@ module _ (f : ℕ → ℕ → Bool) (s t high : ℕ) (n : Next s t) (l : Lowest 
   pub begin : (r : ℕ) → Parted f s (t - high) r → At f s t high high r
   begin r e = record {
     within = and-self high;
-    found = of-part f s t n (t - high) r (omega (arith, l .less)) first e;
+    found = λ q b. of-part f s t n (t - high) (omega (arith, l .less)) first q (sym (e q) ∙ b);
     alone = λ q b. e q ∙ b;
     plain = λ q x b w c. absurd (omega (arith, within-le x high w));
     more = λ q x b w c. absurd (omega (arith, within-le x high w));
@@ -91,27 +92,28 @@ module _ (f : ℕ → ℕ → Bool) (s t high : ℕ) (n : Next s t) (l : Lowest 
   pub inside : (a r : ℕ) → At f s t high a r → (a ≤ high) × (high < t) × (t ≤ s)
   inside a r g = (within-le a high (g .within), l .less, omega (arith, n .is))
 
-  pub next : (a r p p′ : ℕ) → 0 < a → At f s t high a r → Parted f s a p → Parted f s (a + (t - high)) p′ → At f s t high (bitAnd (a - 1) high) (bitOr r (bitOr p p′))
-  next a r p p′ h g e e′ = record {
+  -- a turn's two parts
+  abbrev turned : ℕ → ℕ → Bool
+  turned a q = (f a q || f (s - a) q) || (f (a + (t - high)) q || f (s - (a + (t - high))) q)
+
+  pub next : (a r r′ : ℕ) → 0 < a → At f s t high a r → ((q : ℕ) → bit q r′ ≡ (bit q r || turned a q)) → At f s t high (bitAnd (a - 1) high) r′
+  next a r r′ h g digits = record {
     within = and-within (a - 1) high;
-    found = λ q b. ⊎-elim (g .found q) (λ b′. ⊎-elim (of-part f s t n a p h (l .plain a (g .within)) e q)
-        (of-part f s t n (a + (t - high)) p′ (omega arith) (l .more a (g .within)) e′ q) (or-split (bit q p) (bit q p′) b′))
-        (or-split (bit q r) (bit q p || bit q p′) (sym (digits q) ∙ b));
+    found = λ q b. ⊎-elim (g .found q) (λ b′. ⊎-elim (of-part f s t n a h (l .plain a (g .within)) q)
+        (of-part f s t n (a + (t - high)) (omega arith) (l .more a (g .within)) q) (or-split (f a q || f (s - a) q) (f (a + (t - high)) q || f (s - (a + (t - high))) q) b′))
+        (or-split (bit q r) (turned a q) (sym (digits q) ∙ b));
     alone = λ q b. old q (g .alone q b);
     plain = λ q x b w c. ⊎-elim (λ k. old q (g .plain q x k w c))
-        (λ k. new q (or-left (bit q p) (bit q p′) (e q ∙ subst (λ y. So (f y q || f (s - y) q)) (sym k) c))) (past x b w (order a x));
+        (λ k. new q (or-left (f a q || f (s - a) q) _ (subst (λ y. So (f y q || f (s - y) q)) (sym k) c))) (past x b w (order a x));
     more = λ q x b w c. ⊎-elim (λ k. old q (g .more q x k w c))
-        (λ k. new q (or-right (bit q p) (bit q p′) (e′ q ∙ subst (λ y. So (f (y + (t - high)) q || f (s - (y + (t - high))) q)) (sym k) c))) (past x b w (order a x));
+        (λ k. new q (or-right (f a q || f (s - a) q) _ (subst (λ y. So (f (y + (t - high)) q || f (s - (y + (t - high))) q)) (sym k) c))) (past x b w (order a x));
   }
     where
-      digits : (q : ℕ) → bit q (bitOr r (bitOr p p′)) ≡ (bit q r || (bit q p || bit q p′))
-      digits q = bit-or q r (bitOr p p′) ∙ ap (λ b. bit q r || b) (bit-or q p p′)
+      old : (q : ℕ) → So (bit q r) → So (bit q r′)
+      old q b = digits q ∙ or-left (bit q r) (turned a q) b
 
-      old : (q : ℕ) → So (bit q r) → So (bit q (bitOr r (bitOr p p′)))
-      old q b = digits q ∙ or-left (bit q r) (bit q p || bit q p′) b
-
-      new : (q : ℕ) → So (bit q p || bit q p′) → So (bit q (bitOr r (bitOr p p′)))
-      new q b = digits q ∙ or-right (bit q r) (bit q p || bit q p′) b
+      new : (q : ℕ) → So (turned a q) → So (bit q r′)
+      new q b = digits q ∙ or-right (bit q r) (turned a q) b
 
       past : (x : ℕ) → bitAnd (a - 1) high < x → Within x high → Order a x → (a < x) ⊎ (a ≡ x)
       past x b w (less k) = inl k
@@ -126,36 +128,70 @@ module _ (f : ℕ → ℕ → Bool) (s t high : ℕ) (n : Next s t) (l : Lowest 
       go q x k c (zero, w, inr e) = g .alone q (subst (λ z. So (f z q || f (s - z) q)) (let z : x ≡ t - high = omega arith in z) c)
       go q x k c (suc y, w, inr e) = g .more q (suc y) (omega arith) w (subst (λ z. So (f z q || f (s - z) q)) e c)
 
--- ── a part and its rest ──
--- the rows of a part and of its rest, both ways
-abbrev rows : List ℕ → ℕ → ℕ → ℕ
-rows sets s a = bitOr (bitAnd (leftAt sets a) (rightAt sets (s - a))) (bitAnd (leftAt sets (s - a)) (rightAt sets a))
+pub next-le : {s t : ℕ} → Next s t → t ≤ s
+next-le n = omega (arith, n .is)
 
+-- ── a turn's digits ──
+-- from a pair
+pub gathered-twice : (f : ℕ → ℕ → Bool) (s x y a b a₁ b₁ a₂ b₂ : ℕ) → Gathered f s x a b a₁ b₁ → Gathered f s y a₁ b₁ a₂ b₂
+    → (q : ℕ) → bit q (bitOr a₂ b₂) ≡ (bit q (bitOr a b) || ((f x q || f (s - x) q) || (f y q || f (s - y) q)))
+gathered-twice f s x y a b a₁ b₁ a₂ b₂ g h q =
+    bit-or q a₂ b₂ ∙ h q ∙ ap (λ c. c || (f y q || f (s - y) q)) (g q ∙ ap (λ c. c || (f x q || f (s - x) q)) (sym (bit-or q a b)))
+    ∙ or-assoc (bit q (bitOr a b)) (f x q || f (s - x) q) (f y q || f (s - y) q)
+
+-- and from two parts
+pub parted-twice : (f : ℕ → ℕ → Bool) (s x y r p p′ : ℕ) → Parted f s x p → Parted f s y p′
+    → (q : ℕ) → bit q (bitOr r (bitOr p p′)) ≡ (bit q r || ((f x q || f (s - x) q) || (f y q || f (s - y) q)))
+parted-twice f s x y r p p′ e e′ q = bit-or q r (bitOr p p′) ∙ ap (λ c. bit q r || c) (bit-or q p p′ ∙ ap₂ _||_ (e q) (e′ q))
+
+-- ── a part and its rest ──
 -- the users of the set x
 abbrev usersAt : List ℕ → ℕ → ℕ
 usersAt sets x = usersIn (noteAt sets x)
 
-module _ (sets : List ℕ) (s a : ℕ) (h : a ≤ s) where
-  back : s - (s - a) ≡ a
-  back = omega arith
+regroup : (a b c d : Bool) → ((a || c) || (b || d)) ≡ ((a || b) || (c || d))
+regroup true b c d = refl
+regroup false true c d = or-true c
+regroup false false c d = refl
 
-  pub rows-parted : Parted (matched sets s) s a (rows sets s a)
-  rows-parted q = simp (bit-or, bit-and, back)
+module _ (sets : List ℕ) (whole a s x : ℕ) (at : PartAt whole a s x) (h : a ≤ whole) where
+  back : s - (s - x) ≡ x
+  back = omega (arith, at .is-whole, at .is-part)
+
+  -- where the rest has its numbers
+  rest : whole - a ≡ 3 * (s - x)
+  rest = omega (arith, at .is-whole, at .is-part)
+
+  pub found-digits : (one two : ℕ)
+      → Gathered (matched sets s) s x one two (bitOr one (bitAnd (getD sets a 0) (getD sets (whole - a + 1) 0))) (bitOr two (bitAnd (getD sets (whole - a) 0) (getD sets (a + 1) 0)))
+  found-digits one two q =
+      rw (rest, at .is-part, back)
+      (ap₂ _||_ (bit-or q one _ ∙ ap (λ b. bit q one || b) (bit-and q _ _)) (bit-or q two _ ∙ ap (λ b. bit q two || b) (bit-and q _ _))
+      ∙ regroup (bit q one) (bit q two) (bit q (leftAt sets x) && bit q (rightAt sets (s - x))) (bit q (leftAt sets (s - x)) && bit q (rightAt sets x)))
 
   -- where users are compared
-  pub kept-parted : (anyone x r : ℕ) → Parted (matched sets s) s a x
-      → r ≡ cond (eqb (bitAnd (usersAt sets a) (usersAt sets (s - a))) 0) x (bitAnd x anyone) → Parted (matchedApart sets anyone s) s a r
-  kept-parted anyone x r p e q =
-      ap (bit q) e ∙ chosen (eqb (bitAnd (usersAt sets a) (usersAt sets (s - a))) 0) ∙ ap (λ b. b && allowed sets anyone s a q) (p q)
-      ∙ and-or-distrib-right (matched sets s a q) (matched sets s (s - a) q) (allowed sets anyone s a q)
-      ∙ ap (λ n. matched sets s a q && allowed sets anyone s a q || matched sets s (s - a) q && (eqb n 0 || bit q anyone)) turned
+  pub kept-parted : (anyone y r : ℕ) → Parted (matched sets s) s x y
+      → r ≡ cond (eqb (bitAnd (usersIn (getD sets (a + 2) 0)) (usersIn (getD sets (whole - a + 2) 0))) 0) y (bitAnd y anyone) → Parted (matchedApart sets anyone s) s x r
+  kept-parted anyone y r p e q =
+      ap (bit q) (e ∙ placed) ∙ chosen (eqb (bitAnd (usersAt sets x) (usersAt sets (s - x))) 0) ∙ ap (λ b. b && allowed sets anyone s x q) (p q)
+      ∙ and-or-distrib-right (matched sets s x q) (matched sets s (s - x) q) (allowed sets anyone s x q)
+      ∙ ap (λ n. matched sets s x q && allowed sets anyone s x q || matched sets s (s - x) q && (eqb n 0 || bit q anyone)) turned-users
     where
-      chosen : (c : Bool) → bit q (cond c x (bitAnd x anyone)) ≡ (bit q x && (c || bit q anyone))
-      chosen true = sym (and-true (bit q x))
-      chosen false = bit-and q x anyone
+      placed : cond (eqb (bitAnd (usersIn (getD sets (a + 2) 0)) (usersIn (getD sets (whole - a + 2) 0))) 0) y (bitAnd y anyone)
+          ≡ cond (eqb (bitAnd (usersAt sets x) (usersAt sets (s - x))) 0) y (bitAnd y anyone)
+      placed = rw (rest, at .is-part)
 
-      turned : bitAnd (usersAt sets a) (usersAt sets (s - a)) ≡ bitAnd (usersAt sets (s - a)) (usersAt sets (s - (s - a)))
-      turned = and-comm (usersAt sets a) (usersAt sets (s - a)) ∙ rw back
+      chosen : (c : Bool) → bit q (cond c y (bitAnd y anyone)) ≡ (bit q y && (c || bit q anyone))
+      chosen true = sym (and-true (bit q y))
+      chosen false = bit-and q y anyone
+
+      turned-users : bitAnd (usersAt sets x) (usersAt sets (s - x)) ≡ bitAnd (usersAt sets (s - x)) (usersAt sets (s - (s - x)))
+      turned-users = and-comm (usersAt sets x) (usersAt sets (s - x)) ∙ rw back
+
+-- what is gathered from nothing is the part's own
+pub from-nothing : (f : ℕ → ℕ → Bool) (s x one two : ℕ) → Gathered f s x 0 0 one two → Parted f s x (bitOr one two)
+from-nothing f s x one two g q =
+    bit-or q one two ∙ g q ∙ ap₂ (λ a b. (a || b) || (f x q || f (s - x) q)) (bit-of-zero q) (bit-of-zero q)
 
 -- ── what is asked for at the words of a mask only ──
 module _ (f : ℕ → ℕ → Bool) (s w : ℕ) where

@@ -85,6 +85,15 @@ pub record Part (x s : ℕ) : Type 0 where
 abbrev pub Parted : (ℕ → ℕ → Bool) → ℕ → ℕ → ℕ → Type 0
 Parted f s x r = (q : ℕ) → bit q r ≡ (f x q || f (s - x) q)
 
+-- where the part x of s, and s, have their numbers in the table
+pub record PartAt (whole a s x : ℕ) : Type 0 where
+  pub is-whole : whole ≡ 3 * s
+  pub is-part : a ≡ 3 * x
+
+-- the digits of the pair `ahead`, `back` with those of the part x of s and of the rest
+abbrev pub Gathered : (ℕ → ℕ → Bool) → ℕ → ℕ → ℕ → ℕ → ℕ → ℕ → Type 0
+Gathered f s x ahead back ahead′ back′ = (q : ℕ) → (bit q ahead′ || bit q back′) ≡ ((bit q ahead || bit q back) || (f x q || f (s - x) q))
+
 -- digit q of r says whether f holds at q of some part that is neither empty nor s
 pub record Joined (f : ℕ → ℕ → Bool) (s r : ℕ) : Type 0 where
   pub found : (q : ℕ) → So (bit q r) → (x : ℕ) × Part x s × So (f x q)

@@ -1,23 +1,33 @@
 // The ways to part a set in two, walked for the words of together and apart.
 ghost use mathlib.Core.Path.{_≡_};
 ghost use mathlib.Core.Bool.{_&&_, cond};
-ghost use Prim.Native.Nat.{_+_, _*_, _≤_, _<_};
+ghost use Prim.Native.Nat.{ℕ, _+_, _*_, _≤_, _<_};
 ghost use lib.Bits.{bitAnd};
 ghost use lib.Dec.{eqb};
 ghost use lib.ListN.{length};
-ghost use Rattle.workspace.specs.Private.{Parted, Joined, Next, matched, matchedApart, jointly, Chance};
+ghost use Rattle.workspace.specs.Private.{PartAt, Parted, Gathered, Joined, Next, matched, matchedApart, jointly, Chance};
 use super::masks::packed;
 use super::masks::unpacked;
 use super::notes::users_in;
 
-// Where the part a of s stands at the left sides and the rest of s at the right sides, or the other way round.
-fn parted(sets: &[u64], s: usize, a: usize) -> u64
-    requires { ⌜ (a ≤ s) × (s < 4096) × (3 * s + 2 < length (now sets)) ⌝ }
-    ensures { λ r. ⌜ Parted (matched (now (sets .entry)) s) s a r ⌝ }
+// What parts of a set have at left sides while their rests have it at right sides, and the other way round.
+struct Found {
+    ahead: u64,
+    back: u64,
+}
+
+const NOTHING: Found = Found { ahead: 0, back: 0 };
+
+// With the part whose numbers begin at place a of the table; whole is the set's own place.
+fn found_at(sets: &[u64], found: Found, whole: usize, a: usize) -> Found
+    requires { ⌜ (a ≤ whole) × (whole < 12288) × (whole + 2 < length (now sets)) ⌝ }
+    ensures { λ r. ⌜ ((s x : ℕ) → PartAt whole a s x → Gathered (matched (now (sets .entry)) s) s x (found .ahead) (found .back) (r .ahead) (r .back)) ⌝ }
 {
-    let i = 3 * a;
-    let k = 3 * (s - a);
-    (sets[i] & sets[k + 1]) | (sets[k] & sets[i + 1])
+    let b = whole - a;
+    Found {
+        ahead: found.ahead | (sets[a] & sets[b + 1]),
+        back: found.back | (sets[b] & sets[a + 1]),
+    }
 }
 
 // What counts of x for two parts: where they share a user, only the words at which that does not matter.
@@ -27,15 +37,15 @@ fn counted(x: u64, shared: u16, anyone: u64) -> u64
     if shared == 0 { x } else { x & anyone }
 }
 
-// The same as parted; but where the two parts share a user, only at the words of anyone.
-fn parted_apart(sets: &[u64], anyone: u64, s: usize, a: usize) -> u64
-    requires { ⌜ (a ≤ s) × (s < 4096) × (3 * s + 2 < length (now sets)) ⌝ }
-    ensures { λ r. ⌜ Parted (matchedApart (now (sets .entry)) anyone s) s a r ⌝ }
+// The words of one part, both ways; but where it shares a user with its rest, only the words of anyone.
+fn parted_apart(sets: &[u64], anyone: u64, whole: usize, a: usize) -> u64
+    requires { ⌜ (a ≤ whole) × (whole < 12288) × (whole + 2 < length (now sets)) ⌝ }
+    ensures { λ r. ⌜ ((s x : ℕ) → PartAt whole a s x → Parted (matchedApart (now (sets .entry)) anyone s) s x r) ⌝ }
 {
-    let i = 3 * a;
-    let k = 3 * (s - a);
-    let shared = users_in(sets[i + 2]) & users_in(sets[k + 2]);
-    counted(parted(sets, s, a), shared, anyone)
+    let b = whole - a;
+    let shared = users_in(sets[a + 2]) & users_in(sets[b + 2]);
+    let found = found_at(sets, NOTHING, whole, a);
+    counted(found.ahead | found.back, shared, anyone)
 }
 
 // Where some part of s that is neither empty nor s stands so; t is s without its last action. The walk is over the parts of t without
@@ -44,15 +54,18 @@ fn joined(sets: &[u64], s: usize, t: usize) -> u64
     requires { ⌜ (0 < t) × (s < 4096) × (3 * s + 2 < length (now sets)) × Next s t ⌝ }
     ensures { λ r. ⌜ Joined (matched (now (sets .entry)) s) s r ⌝ }
 {
+    let whole = 3 * s;
     let high = t & (t - 1);
-    let low = t - high;
-    let mut acc = parted(sets, s, low);
+    let low = 3 * (t - high);
+    let mut found = found_at(sets, NOTHING, whole, low);
     let mut a = high;
     while 0 < a {
-        acc = acc | (parted(sets, s, a) | parted(sets, s, a + low));
+        let at = 3 * a;
+        found = found_at(sets, found, whole, at);
+        found = found_at(sets, found, whole, at + low);
         a = (a - 1) & high;
     }
-    acc
+    found.ahead | found.back
 }
 
 // The same by parted_apart.
@@ -60,13 +73,15 @@ fn joined_apart(sets: &[u64], anyone: u64, s: usize, t: usize) -> u64
     requires { ⌜ (0 < t) × (s < 4096) × (3 * s + 2 < length (now sets)) × Next s t ⌝ }
     ensures { λ r. ⌜ Joined (matchedApart (now (sets .entry)) anyone s) s r ⌝ }
 {
+    let whole = 3 * s;
     let high = t & (t - 1);
-    let low = t - high;
-    let mut acc = parted_apart(sets, anyone, s, low);
+    let low = 3 * (t - high);
+    let mut acc = parted_apart(sets, anyone, whole, low);
     let mut a = high;
     while 0 < a {
-        let one = parted_apart(sets, anyone, s, a);
-        let two = parted_apart(sets, anyone, s, a + low);
+        let at = 3 * a;
+        let one = parted_apart(sets, anyone, whole, at);
+        let two = parted_apart(sets, anyone, whole, at + low);
         acc = acc | (one | two);
         a = (a - 1) & high;
     }
