@@ -7,14 +7,13 @@ use mathlib.Core.Option.{Option, some, none}
 use Prim.Native.Nat.{ℕ, zero, suc, _+_, _<_}
 use native.Mathlib.Numerals.{one-add}
 use native.Mathlib.Omega.{arith}
-use lib.Dec.{leb, ltb, eqb}
+use lib.Dec.{ltb, eqb}
 use lib.ListN.{length, drop}
 use lib.Seq.{drop-drop}
-use borrow.Author.Tests.{le-leb, lt-leb, leb-true, eq-eqb, ne-eqb}
+use borrow.Author.Tests.{le-leb, lt-leb, eq-eqb, ne-eqb}
 use Rattle.soda.specs.Terms.{Op, either, both, together, apart, Term, everyone, role, set, ¬ᵗ_, _⁺, bin, unitOp, size}
 use Rattle.soda.specs.Words.{opKind}
-use Rattle.soda.proofs.Bools.{and-split}
-use Rattle.policy.specs.Kinds.{EVERYONE, TOGETHER, APART}
+use Rattle.policy.specs.Kinds.{TOGETHER}
 use Rattle.policy.specs.Words.{Kind, bad, everyoneK, roleK, setK, notK, plusK, opK, kind, operand, sides, kindOf, head, tail, lift1, lift2, push, row, first, single, decode}
 use Rattle.policy.specs.Accepted.{OpSides}
 use Rattle.policy.specs.Private.{known}
@@ -29,13 +28,13 @@ pub data Row : ℕ → ℕ → Type 0 where
   row5 : Row 5 1
   rowOp : (op : Op) → Row (opKind op) 2
 
-abbrev Known : ℕ → Type 0
+abbrev pub Known : ℕ → Type 0
 Known k = ((known k ≡ true) × Row k (sides k)) ⊎ ((known k ≡ false) × (kindOf k ≡ bad))
 
 past-nine : (k : ℕ) → 9 < k → known k ≡ false
 past-nine k h = rw (le-leb 1 k (omega arith), lt-leb k 9 h)
 
-row-of : (k : ℕ) → Known k
+pub row-of : (k : ℕ) → Known k
 row-of zero = inr (refl, refl)
 row-of (suc zero) = inl (refl, row1)
 row-of (suc (suc zero)) = inl (refl, row2)
@@ -47,9 +46,6 @@ row-of (suc (suc (suc (suc (suc (suc (suc zero))))))) = inl (refl, rowOp both)
 row-of (suc (suc (suc (suc (suc (suc (suc (suc zero)))))))) = inl (refl, rowOp together)
 row-of (suc (suc (suc (suc (suc (suc (suc (suc (suc zero))))))))) = inl (refl, rowOp apart)
 row-of (suc (suc (suc (suc (suc (suc (suc (suc (suc (suc k)))))))))) = inr (past-nine (suc (suc (suc (suc (suc (suc (suc (suc (suc (suc k)))))))))) (omega arith), refl)
-
-pub known-low : (k : ℕ) → known k ≡ true → k < 10
-known-low k e = let z = leb-true k APART (and-split (leb EVERYONE k) (leb k APART) e .1) in omega arith
 
 pub known-row : (k n : ℕ) → known k ≡ true → n ≡ sides k → Row k n
 known-row k n e q = elim (row-of k) [

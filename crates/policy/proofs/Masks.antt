@@ -40,27 +40,23 @@ digit-and true false = refl
 digit-and false true = refl
 digit-and false false = refl
 
-module _ {A : Type 0} (f : A → Bool) where
-  pub taken : (n : ℕ) (l : List A) → number (map f l) / 2 ^ n ≡ number (map f (drop n l))
-  taken zero l = div-one (number (map f l))
-  taken (suc n) [] = zero-div (2 ^ suc n)
-  taken (suc n) (x ∷ l) =
-      let e : number (map f (x ∷ l)) / 2 ^ 1 ≡ number (map f l) = omega (arith, digit-lt (f x)) in
-      ap (λ (k : ℕ). number (map f (x ∷ l)) / 2 ^ k) (sym (one-add n))
-      ∙ sym (shr-shr (number (map f (x ∷ l))) 1 n)
-      ∙ ap (λ (k : ℕ). k / 2 ^ n) e
-      ∙ taken n l
+pub taken : (n : ℕ) (l : List Bool) → number l / 2 ^ n ≡ number (drop n l)
+taken zero l = div-one (number l)
+taken (suc n) [] = zero-div (2 ^ suc n)
+taken (suc n) (b ∷ l) =
+    let e : number (b ∷ l) / 2 ^ 1 ≡ number l = omega (arith, digit-lt b) in
+    ap (λ (k : ℕ). number (b ∷ l) / 2 ^ k) (sym (one-add n)) ∙ sym (shr-shr (number (b ∷ l)) 1 n) ∙ ap (λ (k : ℕ). k / 2 ^ n) e ∙ taken n l
 
-  module _ (g : A → Bool) where
-    parts : (l : List A) → bitAnd (number (map f l)) (number (map g l)) + number (map (λ x. f x && not (g x)) l) ≡ number (map f l)
-    parts [] = refl
-    parts (x ∷ l) =
-        let p : number (map f (x ∷ l)) ≡ number (map f l) * 2 ^ 1 + cond (f x) 1 0 = omega arith in
-        let q : number (map g (x ∷ l)) ≡ number (map g l) * 2 ^ 1 + cond (g x) 1 0 = omega arith in
-        let e : bitAnd (number (map f (x ∷ l))) (number (map g (x ∷ l)))
-        ≡ bitAnd (number (map f l)) (number (map g l)) * 2 ^ 1 + bitAnd (cond (f x) 1 0) (cond (g x) 1 0) =
-        (λ i. bitAnd (p i) (q i)) ∙ and-block 1 (number (map f l)) (number (map g l)) (cond (f x) 1 0) (cond (g x) 1 0) (digit-lt (f x)) (digit-lt (g x)) in
-        omega (arith, parts l, digit-and (f x) (g x))
+module _ {A : Type 0} (f g : A → Bool) where
+  parts : (l : List A) → bitAnd (number (map f l)) (number (map g l)) + number (map (λ x. f x && not (g x)) l) ≡ number (map f l)
+  parts [] = refl
+  parts (x ∷ l) =
+      let p : number (map f (x ∷ l)) ≡ number (map f l) * 2 ^ 1 + cond (f x) 1 0 = omega arith in
+      let q : number (map g (x ∷ l)) ≡ number (map g l) * 2 ^ 1 + cond (g x) 1 0 = omega arith in
+      let e : bitAnd (number (map f (x ∷ l))) (number (map g (x ∷ l)))
+      ≡ bitAnd (number (map f l)) (number (map g l)) * 2 ^ 1 + bitAnd (cond (f x) 1 0) (cond (g x) 1 0) =
+      (λ i. bitAnd (p i) (q i)) ∙ and-block 1 (number (map f l)) (number (map g l)) (cond (f x) 1 0) (cond (g x) 1 0) (digit-lt (f x)) (digit-lt (g x)) in
+      omega (arith, parts l, digit-and (f x) (g x))
 
-    pub without-is : (l : List A) → withoutOf (number (map f l)) (number (map g l)) ≡ number (map (λ x. f x && not (g x)) l)
-    without-is l = omega (arith, parts l)
+  pub without-is : (l : List A) → withoutOf (number (map f l)) (number (map g l)) ≡ number (map (λ x. f x && not (g x)) l)
+  without-is l = omega (arith, parts l)

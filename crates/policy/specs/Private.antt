@@ -30,14 +30,6 @@ boundsOf users roles = 0 ∷ 1 ∷ roles ∷ 2 ^ users ∷ 1 ∷ 1 ∷ 1 ∷ 1 �
 abbrev pub boundOk : ℕ → ℕ → ℕ → Bool
 boundOk bound k low = ltb low bound && (not (eqb k SET) || not (eqb low 0))
 
--- whether the user meets a term of one word, of kind k with operand x
-abbrev pub meetsLeaf : ℕ → ℕ → ℕ → ℕ → Bool
-meetsLeaf k x u h = cond (eqb k EVERYONE) (not (eqb h 0)) (cond (eqb k ROLE) (bit x h) (bit u x && not (eqb h 0)))
-
--- whether the user meets a term of kind k with two sides, from whether each side is met
-abbrev pub meetsSides : ℕ → Bool → Bool → Bool
-meetsSides k a b = (eqb k EITHER && (a || b)) || (eqb k BOTH && (a && b))
-
 -- bits with one more below them, in 32 bits
 abbrev pub putOf : ℕ → Bool → ℕ
 putOf n b = bitOr (n * 2 ^ 1 % 2 ^ 32) (cond b 1 0)
@@ -68,7 +60,6 @@ besideSides k a b = record {
 -- a term in the place of the row's first n, which are its sides
 abbrev pub placedOf : Stack → ℕ → Bool → Bool → Bool → Stack
 placedOf s n u m f = record {
-  terms = s .terms - n + 1;
   unit = putOf (s .unit / 2 ^ n) u;
   met = putOf (s .met / 2 ^ n) m;
   formed = f;
@@ -76,19 +67,40 @@ placedOf s n u m f = record {
   noted = putOf (s .noted) (u && m);
 }
 
+-- no row of terms
+abbrev pub noRow : Stack
+noRow = record { unit = 0; met = 0; formed = false; units = 0; noted = 0 }
+
 abbrev pub leafOf : Stack → Bool → Stack
 leafOf s m = placedOf s 0 true m (s .formed)
 
-abbrev pub overOf : Stack → ℕ → Stack
-overOf s k = placedOf s 1 (eqb k NOT && bit 0 (s .unit)) (eqb k NOT && not (bit 0 (s .met))) (bit 0 (s .unit) && s .formed)
+-- over one side, between two sides: none where the row has no more than the bit above its last term, or that and one term
+abbrev pub overOf : Stack → Bool → Bool → Stack
+overOf s u m = cond (ltb (s .unit) 2) noRow (placedOf s 1 u m (bit 0 (s .unit) && s .formed))
 
-abbrev pub besideOf : Stack → ℕ → Stack
-besideOf s k =
-    placedOf s 2 (ltb k TOGETHER && (bit 0 (s .unit) && bit 1 (s .unit))) (meetsSides k (bit 0 (s .met)) (bit 1 (s .met))) (s .formed)
+abbrev pub besideOf : Stack → Bool → Bool → Stack
+besideOf s u m = cond (ltb (s .unit) 4) noRow (placedOf s 2 u m (s .formed))
 
--- by the sides of the word, of kind k with operand x
-abbrev pub stepOf : ℕ → ℕ → Stack → ℕ → ℕ → ℕ → Stack
-stepOf u h s k n x = cond (eqb n 0) (leafOf s (meetsLeaf k x u h)) (cond (eqb n 1) (overOf s k) (besideOf s k))
+-- both, or one, of the first two terms
+abbrev pub bothOf : ℕ → Bool
+bothOf bits = bit 0 bits && bit 1 bits
+
+abbrev pub someOf : ℕ → Bool
+someOf bits = bit 0 bits || bit 1 bits
+
+-- by the word's kind k, with operand x
+abbrev pub stepOf : ℕ → ℕ → Stack → ℕ → ℕ → Stack
+stepOf u h s k x =
+    cond (eqb k EVERYONE) (leafOf s (not (eqb h 0)))
+    (cond (eqb k ROLE) (leafOf s (bit x h))
+    (cond (eqb k SET) (leafOf s (bit u x && not (eqb h 0)))
+    (cond (eqb k NOT) (overOf s (bit 0 (s .unit)) (not (bit 0 (s .met))))
+    (cond (eqb k PLUS) (overOf s false false)
+    (cond (eqb k EITHER) (besideOf s (bothOf (s .unit)) (someOf (s .met)))
+    (cond (eqb k BOTH) (besideOf s (bothOf (s .unit)) (bothOf (s .met)))
+    (cond (eqb k TOGETHER) (besideOf s false false)
+    (cond (eqb k APART) (besideOf s false false)
+    noRow))))))))
 
 -- what is found of the term that some words are
 abbrev pub analysisIn : ℕ → ℕ → Option Term → Analysis

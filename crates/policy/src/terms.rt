@@ -2,20 +2,17 @@
 ghost use mathlib.Core.Path.{_≡_};
 ghost use Prim.Native.Nat.{_≤_};
 ghost use lib.ListN.{length};
-ghost use Rattle.policy.specs.Words.{decode};
-ghost use Rattle.policy.specs.Private.{meetsLeaf, putOf, placedOf, leafOf, overOf, besideOf, stepOf, analysisIn};
+ghost use Rattle.policy.specs.Words.{kind, operand, decode};
+ghost use Rattle.policy.specs.Private.{putOf, placedOf, leafOf, overOf, besideOf, bothOf, someOf, stepOf, analysisIn};
 use super::kinds;
-use super::words::SIDES;
 use super::words::has_bit;
-use super::words::is_known;
 use super::words::kind_of;
 use super::words::operand_of;
 
-// A row of terms, read from the last word to the first, in bits: how many there are; whether each is a unit term and whether the
-// user meets it, the lowest bit for the first term; whether all are well formed; and masks over their words: those that begin unit
+// A row of terms, read from the last word to the first, in bits: whether each is a unit term, the lowest bit for the first term, with
+// a bit set above the last; whether the user meets each; whether all are well formed; and masks over their words: those that begin unit
 // terms, and the unit terms that the user meets.
 struct Stack {
-    terms: u8,
     unit: u32,
     met: u32,
     formed: bool,
@@ -32,10 +29,18 @@ pub(crate) struct Analysis {
 
 // No term yet.
 const NO_TERMS: Stack = Stack {
-    terms: 0,
-    unit: 0,
+    unit: 1,
     met: 0,
     formed: true,
+    units: 0,
+    noted: 0,
+};
+
+// The words are no row of terms: the bit above the last is lost.
+const NO_ROW: Stack = Stack {
+    unit: 0,
+    met: 0,
+    formed: false,
     units: 0,
     noted: 0,
 };
@@ -47,19 +52,6 @@ const NOTHING: Analysis = Analysis {
     noted: 0,
 };
 
-// Whether a user who holds these roles meets a term of one word, of kind k with operand x.
-fn meets_leaf(k: usize, x: u32, user: u8, held: u16) -> bool
-    ensures { λ r. ⌜ r ≡ meetsLeaf k x user held ⌝ }
-{
-    if k == kinds::EVERYONE {
-        return held != 0;
-    }
-    if k == kinds::ROLE {
-        return has_bit(held as u32, x);
-    }
-    has_bit(x, user as u32) & (held != 0)
-}
-
 // Bits with one more below them.
 pub(crate) fn put(bits: u32, b: bool) -> u32
     ensures { λ r. ⌜ r ≡ putOf bits b ⌝ }
@@ -69,12 +61,10 @@ pub(crate) fn put(bits: u32, b: bool) -> u32
 
 // The row after a word whose n sides are the row's first terms.
 fn placed(s: Stack, n: u8, unit: bool, met: bool, formed: bool) -> Stack
-    requires { ⌜ n ≤ s .terms ⌝ }
-    requires { ⌜ s .terms ≤ 31 ⌝ }
+    requires { ⌜ n ≤ 2 ⌝ }
     ensures { λ r. ⌜ r ≡ placedOf s n unit met formed ⌝ }
 {
     Stack {
-        terms: s.terms - n + 1,
         unit: put(s.unit >> n, unit),
         met: put(s.met >> n, met),
         formed,
@@ -85,50 +75,78 @@ fn placed(s: Stack, n: u8, unit: bool, met: bool, formed: bool) -> Stack
 
 // A term of one word.
 fn leaf(s: Stack, met: bool) -> Stack
-    requires { ⌜ s .terms ≤ 31 ⌝ }
     ensures { λ r. ⌜ r ≡ leafOf s met ⌝ }
 {
     placed(s, 0, true, met, s.formed)
 }
 
-// Not (kind 4) or plus (kind 5) over a side.
-fn over(s: Stack, k: usize) -> Stack
-    requires { ⌜ 1 ≤ s .terms ⌝ }
-    requires { ⌜ s .terms ≤ 31 ⌝ }
-    ensures { λ r. ⌜ r ≡ overOf s k ⌝ }
+// A term over one side.
+fn over(s: Stack, unit: bool, met: bool) -> Stack
+    ensures { λ r. ⌜ r ≡ overOf s unit met ⌝ }
 {
-    let side = has_bit(s.unit, 0);
-    let unit = (k == kinds::NOT) & side;
-    let met = (k == kinds::NOT) & !has_bit(s.met, 0);
-    placed(s, 1, unit, met, side & s.formed)
+    if s.unit < 2 {
+        return NO_ROW;
+    }
+    placed(s, 1, unit, met, has_bit(s.unit, 0) & s.formed)
 }
 
-// An operator (kinds 6 to 9) between two sides.
-fn beside(s: Stack, k: usize) -> Stack
-    requires { ⌜ 2 ≤ s .terms ⌝ }
-    requires { ⌜ s .terms ≤ 31 ⌝ }
-    ensures { λ r. ⌜ r ≡ besideOf s k ⌝ }
+// A term between two sides.
+fn beside(s: Stack, unit: bool, met: bool) -> Stack
+    ensures { λ r. ⌜ r ≡ besideOf s unit met ⌝ }
 {
-    let unit = (k < kinds::TOGETHER) & (has_bit(s.unit, 0) & has_bit(s.unit, 1));
-    let a = has_bit(s.met, 0);
-    let b = has_bit(s.met, 1);
-    let met = ((k == kinds::EITHER) & (a | b)) | ((k == kinds::BOTH) & (a & b));
+    if s.unit < 4 {
+        return NO_ROW;
+    }
     placed(s, 2, unit, met, s.formed)
 }
 
-// The row after a word of kind k, with n sides and operand x.
-fn step(s: Stack, k: usize, n: u8, x: u32, user: u8, held: u16) -> Stack
-    requires { ⌜ n ≤ s .terms ⌝ }
-    requires { ⌜ s .terms ≤ 31 ⌝ }
-    ensures { λ r. ⌜ r ≡ stepOf user held s k n x ⌝ }
+// Whether the first two terms both have their bit.
+fn both(bits: u32) -> bool
+    ensures { λ r. ⌜ r ≡ bothOf bits ⌝ }
 {
-    if n == 0 {
-        return leaf(s, meets_leaf(k, x, user, held));
+    has_bit(bits, 0) & has_bit(bits, 1)
+}
+
+// Whether one of the first two terms has its bit.
+fn some(bits: u32) -> bool
+    ensures { λ r. ⌜ r ≡ someOf bits ⌝ }
+{
+    has_bit(bits, 0) | has_bit(bits, 1)
+}
+
+// The row after a word, by its kind.
+fn step(s: Stack, w: u32, user: u8, held: u16) -> Stack
+    ensures { λ r. ⌜ r ≡ stepOf user held s (kind w) (operand w) ⌝ }
+{
+    let k = kind_of(w);
+    if k == kinds::EVERYONE {
+        return leaf(s, held != 0);
     }
-    if n == 1 {
-        return over(s, k);
+    if k == kinds::ROLE {
+        return leaf(s, has_bit(held as u32, operand_of(w)));
     }
-    beside(s, k)
+    if k == kinds::SET {
+        return leaf(s, has_bit(operand_of(w), user as u32) & (held != 0));
+    }
+    if k == kinds::NOT {
+        return over(s, has_bit(s.unit, 0), !has_bit(s.met, 0));
+    }
+    if k == kinds::PLUS {
+        return over(s, false, false);
+    }
+    if k == kinds::EITHER {
+        return beside(s, both(s.unit), some(s.met));
+    }
+    if k == kinds::BOTH {
+        return beside(s, both(s.unit), both(s.met));
+    }
+    if k == kinds::TOGETHER {
+        return beside(s, false, false);
+    }
+    if k == kinds::APART {
+        return beside(s, false, false);
+    }
+    NO_ROW
 }
 
 // The one term that the words are, analysed for a user who holds these roles; only what is noted depends on them.
@@ -136,24 +154,16 @@ pub(crate) fn analyse(words: &[u32], user: u8, held: u16) -> Analysis
     requires { ⌜ length (now words) ≤ 31 ⌝ }
     ensures { λ r. ⌜ r ≡ analysisIn user held (decode (now (words .entry))) ⌝ }
 {
-    // one copy of the table for all words
-    let table = SIDES;
     let mut s = NO_TERMS;
     let mut i = words.len();
     while 0 < i {
         i -= 1;
-        let w = words[i];
-        let k = kind_of(w);
-        if !is_known(k) {
+        s = step(s, words[i], user, held);
+        if s.unit == 0 {
             return NOTHING;
         }
-        let n = table[k];
-        if s.terms < n {
-            return NOTHING;
-        }
-        s = step(s, k, n, operand_of(w), user, held);
     }
-    if s.terms != 1 {
+    if s.unit >> 1 != 1 {
         return NOTHING;
     }
     Analysis {

@@ -10,7 +10,7 @@ ghost use Rattle.policy.specs.Private.{known, boundOk};
 use super::kinds;
 
 // The number of sides of a word, by its kind.
-pub(crate) const SIDES: [u8; 10] = [0, 0, 0, 0, 1, 1, 2, 2, 2, 2];
+const SIDES: [u8; 10] = [0, 0, 0, 0, 1, 1, 2, 2, 2, 2];
 
 // The kind of a word.
 pub fn kind_of(w: u32) -> usize

@@ -1,21 +1,14 @@
--- The sides' bits are what `has_bit` ensures.
+-- Below 4 the row has one term or none.
 use borrow.Author.Needs.{needs}
+use borrow.Author.Tests.{lt-ltb, le-ltb}
 use Rattle.policy.proofs.terms.beside.Statement.{statement}
 use Rattle.policy.proofs.terms.beside.Tie as tie
 
 returns : tie.Need-returns
-returns c =
-    let met = c .before in
-    let unit = met .before .before in
-    rw (c .placed .ensures, met .has-bit4 .ensures, met .before .has-bit3 .ensures, unit .has-bit2 .ensures, unit .before .has-bit .ensures)
+returns c = rw (lt-ltb _ _ (c .if1 .taken))
+
+returns-2 : tie.Need-returns-2
+returns-2 c = rw (c .placed .ensures, le-ltb _ _ (c .before .if1 .left))
 
 pub beside-spec : {M : Type 1} → statement M
-beside-spec =
-    tie.close
-    (tie.spec
-    (λ c κs. search needs)
-    (λ c κs. search needs)
-    (λ c κs. search needs)
-    (λ c κs. search needs)
-    (λ c κs. search needs)
-    returns)
+beside-spec = tie.close (tie.spec returns (λ c κs. search needs) returns-2)
