@@ -31,7 +31,7 @@ pub data Row : ℕ → ℕ → Type 0 where
 abbrev pub Known : ℕ → Type 0
 Known k = ((known k ≡ true) × Row k (sides k)) ⊎ ((known k ≡ false) × (kindOf k ≡ bad))
 
-past-nine : (k : ℕ) → 9 < k → known k ≡ false
+pub past-nine : (k : ℕ) → 9 < k → known k ≡ false
 past-nine k h = rw (le-leb 1 k (omega arith), lt-leb k 9 h)
 
 pub row-of : (k : ℕ) → Known k

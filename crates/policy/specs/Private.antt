@@ -22,13 +22,13 @@ use Rattle.policy.specs.declared.shapes.KindMasks.{KindMasks}
 abbrev pub known : ℕ → Bool
 known k = leb EVERYONE k && leb k APART
 
--- for each kind of 01's table, what a word's bits below the kind stay under
-abbrev pub boundsOf : ℕ → ℕ → List ℕ
-boundsOf users roles = 0 ∷ 1 ∷ roles ∷ 2 ^ users ∷ 1 ∷ 1 ∷ 1 ∷ 1 ∷ 1 ∷ 1 ∷ []
+-- for each kind of 01's table, the least word that may be in the layout, and how many are from it on
+abbrev pub leastWords : List ℕ
+leastWords =
+    0 ∷ 2 ^ 24 ∷ (2 * 2 ^ 24) ∷ (3 * 2 ^ 24 + 1) ∷ (4 * 2 ^ 24) ∷ (5 * 2 ^ 24) ∷ (6 * 2 ^ 24) ∷ (7 * 2 ^ 24) ∷ (8 * 2 ^ 24) ∷ (9 * 2 ^ 24) ∷ []
 
--- the bits below the kind k stay under a bound; a set is not empty
-abbrev pub boundOk : ℕ → ℕ → ℕ → Bool
-boundOk bound k low = ltb low bound && (not (eqb k SET) || not (eqb low 0))
+abbrev pub roomsOf : ℕ → ℕ → List ℕ
+roomsOf users roles = 0 ∷ 1 ∷ roles ∷ (2 ^ users - 1) ∷ 1 ∷ 1 ∷ 1 ∷ 1 ∷ 1 ∷ 1 ∷ []
 
 -- bits with one more below them, in 32 bits
 abbrev pub putOf : ℕ → Bool → ℕ

@@ -6,8 +6,9 @@ ghost use Rattle.soda.specs.Bits.{bit};
 ghost use Rattle.soda.specs.Lists.{all};
 ghost use Rattle.policy.specs.Words.{kind, operand, sides, wordOk};
 ghost use Rattle.policy.specs.Reading.{countOk, lengthOk};
-ghost use Rattle.policy.specs.Private.{known, boundOk};
+ghost use Rattle.policy.specs.Private.{known};
 use super::kinds;
+use std::num;
 
 // The number of sides of a word, by its kind.
 const SIDES: [u8; 10] = [0, 0, 0, 0, 1, 1, 2, 2, 2, 2];
@@ -61,31 +62,39 @@ pub(crate) fn length_ok(n: usize) -> bool
     (1 <= n) & (n <= 31)
 }
 
-// Whether the bits below the kind of a word of kind k stay under its bound; a set is not empty.
-fn bound_ok(bound: u32, k: usize, low: u32) -> bool
-    ensures { λ r. ⌜ r ≡ boundOk bound k low ⌝ }
-{
-    (low < bound) & ((k != kinds::SET) | (low != 0))
-}
+// The least word of each kind that is in the layout: its operand is 0, or for a set 1.
+const LEAST: [u32; 10] = [
+    0,
+    1 << 24,
+    2 << 24,
+    (3 << 24) + 1,
+    4 << 24,
+    5 << 24,
+    6 << 24,
+    7 << 24,
+    8 << 24,
+    9 << 24,
+];
 
-// Whether every word is in the layout and names only what is declared, by a bound for each kind.
+// Whether every word is in the layout and names only what is declared: of each kind that is so for the least word and some that follow.
 pub(crate) fn words_ok(users: u8, roles: u8, words: &[u32]) -> bool
     requires { ⌜ users ≤ 16 ⌝ }
     ensures { λ r. ⌜ r ≡ all (wordOk users roles) (now (words .entry)) ⌝ }
 {
+    let least = LEAST;
     // by kind: none, everyone, role, set, and those without an operand
-    let bounds = [0, 1, roles as u32, 1u32 << users, 1, 1, 1, 1, 1, 1];
-    let mut i = 0;
-    while i < words.len() {
+    let room = [0, 1, roles as u32, (1u32 << users) - 1, 1, 1, 1, 1, 1, 1];
+    let mut i = words.len();
+    while 0 < i {
+        i -= 1;
         let w = words[i];
         let k = kind_of(w);
         if kinds::APART < k {
             return false;
         }
-        if !bound_ok(bounds[k], k, w & 0xff_ffff) {
+        if room[k] <= num::wrapping_sub_u32(w, least[k]) {
             return false;
         }
-        i += 1;
     }
     true
 }

@@ -1,30 +1,42 @@
--- The test of all words is that of the words from i on.
-use mathlib.Core.Path.{_≡_, refl, sym, _∙_, ap}
-use mathlib.Core.Bool.{Bool, _&&_}
-use mathlib.Core.List.{[], _∷_}
-use Prim.Native.Nat.{ℕ, _+_, _-_, _%_, _^_, _≤_}
-use native.Mathlib.Numerals.{add-one}
+-- The invariant: the words from i on are in the layout.
+use mathlib.Core.Path.{_≡_, sym, _∙_, ap}
+use mathlib.Core.Bool.{Bool, true, false, _&&_, and-false}
+use mathlib.Core.List.{List, [], _∷_}
+use Prim.Native.Nat.{ℕ, zero, suc, _+_, _-_, _*_, _%_, _^_, _≤_, _<_}
+use native.Mathlib.Numerals.{one-add}
 use native.Mathlib.Omega.{arith}
-use lib.Bits.{and-mask}
-use lib.ListN.{length, getD, drop, drop-of-length-le}
-use lib.Seq.{drop-cons}
+use lib.Dec.{ltb}
+use lib.ListN.{length, getD, drop}
+use lib.Pow.{pow-pos}
+use lib.Seq.{drop-cons, drop-length}
 use borrow.Author.Needs.{needs}
-use borrow.Author.Tests.{not-true, not-false}
+use borrow.Author.Tests.{lt-ltb, le-ltb}
 use Rattle.soda.specs.Lists.{all}
+use Rattle.soda.proofs.Bools.{and-join}
 use Rattle.policy.specs.Words.{kind, wordOk}
-use Rattle.policy.specs.Private.{boundOk}
-use Rattle.policy.proofs.Layouts.{one-shl, bounds-are, out-of-bounds}
+use Rattle.policy.specs.Private.{leastWords, roomsOf}
+use Rattle.policy.proofs.Grammar.{past-nine}
+use Rattle.policy.proofs.Layouts.{one-shl, no-kind, in-room}
 use Rattle.policy.proofs.words.words_ok.Statement.{statement}
 use Rattle.policy.proofs.words.words_ok.Tie as tie
 
 abbrev Inv-loop : tie.InvT-loop
-Inv-loop users roles words bounds i₀ i = (i ≤ length words) × (all (wordOk users roles) words ≡ all (wordOk users roles) (drop i words))
+Inv-loop users roles words least room i₀ i = (i ≤ length words) × (all (wordOk users roles) (drop i words) ≡ true)
 
 abbrev μ-loop : tie.MeasureT-loop
-μ-loop users roles words bounds i₀ i = length words - i
+μ-loop users roles words least room i₀ i = i
+
+-- one word fails the test
+fails : (f : ℕ → Bool) (l : List ℕ) (j : ℕ) → j < length l → f (getD l j 0) ≡ false → all f l ≡ false
+fails f [] j h e = absurd (omega arith)
+fails f (x ∷ l) zero h e = rw e
+fails f (x ∷ l) (suc j) h e = ap (λ (b : Bool). f x && b) (fails f l j (omega arith) e) ∙ and-false (f x)
+
+sub-t13 : tie.Need-sub-t13 Inv-loop μ-loop
+sub-t13 c = let s = c .before in rw (one-shl (s .args .users) (omega (arith, s .pre))) (pow-pos (s .args .users))
 
 loop-holds : tie.Need-loop-holds Inv-loop μ-loop
-loop-holds c = (omega arith, refl)
+loop-holds c = let s = c .before in (omega arith, ap (all (wordOk (s .args .users) (s .args .roles))) (drop-length (s .args .words .now)))
 
 -- the loop's place, and the start
 abbrev place : tie.After-kind-of Inv-loop μ-loop → tie.At-loop Inv-loop μ-loop
@@ -33,54 +45,59 @@ place c = c .before .before .before
 abbrev start : tie.At-loop Inv-loop μ-loop → tie.Start Inv-loop μ-loop
 start c = c .before .before
 
--- the word at i, and whether it is in the layout
+-- the word before i, and whether it is in the layout
 abbrev word : tie.After-kind-of Inv-loop μ-loop → ℕ
-word c = getD (start (place c) .args .words .now) (place c .loop .i) 0
+word c = getD (start (place c) .args .words .now) (place c .loop .i - 1) 0
 
 abbrev ok : tie.At-loop Inv-loop μ-loop → ℕ → Bool
 ok l w = wordOk (start l .args .users) (start l .args .roles) w
 
--- the test from word i on: word i's, then that of the words behind it
-from-i : (c : tie.After-kind-of Inv-loop μ-loop) → let a = start (place c) .args in
-    all (ok (place c)) (a .words .now) ≡ (ok (place c) (word c) && all (ok (place c)) (drop (place c .loop .i + 1) (a .words .now)))
-from-i c =
-    let l = place c in
-    l .loop .inv .1
-    ∙ ap (all (ok l)) (drop-cons (start l .args .words .now) (l .loop .i) 0 (c .before .before .loop-test .taken))
-    ∙ rw add-one
-
 returns : tie.Need-returns Inv-loop μ-loop
 returns c =
     let e = c .before in
-    let s = start (place e) in
-    let k = e .kind-of .ensures in
-    sym (from-i e ∙ rw (out-of-bounds (s .args .users) (s .args .roles) (s .pre) (omega (arith, s .fits .roles .fits)) (word e) (omega arith)))
+    let l = place e in
+    let a = start l .args in
+    sym (fails (ok l) (a .words .now) (l .loop .i - 1) (omega arith)
+    (no-kind (a .users) (a .roles) (word e) (past-nine (kind (word e)) (omega (arith, e .kind-of .ensures)))))
 
--- the word is in the layout where it stays under its bound
-in-layout : (c : tie.After-bound-ok Inv-loop μ-loop) → let e = c .before .before in ok (place e) (word e) ≡ c .bound-ok .result
+-- the word is in the layout where it is in the room from the least word of its kind on
+in-layout : (c : tie.After-wrapping-sub-u32 Inv-loop μ-loop) → let e = c .before .before in
+    let a = start (place e) .args in
+    ltb (c .wrapping-sub-u32 .result) (getD (0 ∷ 1 ∷ a .roles ∷ ((1 * 2 ^ a .users) % 2 ^ 32 - 1) ∷ 1 ∷ 1 ∷ 1 ∷ 1 ∷ 1 ∷ 1 ∷ []) (e .kind-of .result) 0)
+    ≡ ok (place e) (word e)
 in-layout c =
     let e = c .before .before in
     let s = start (place e) in
     let a = s .args in
-    let w = word e in
-    sym (bounds-are (a .users) (a .roles) (s .pre) (omega (arith, s .fits .roles .fits)) w)
-    ∙ sym (ap (λ (n : ℕ). boundOk (getD (0 ∷ 1 ∷ a .roles ∷ n ∷ 1 ∷ 1 ∷ 1 ∷ 1 ∷ 1 ∷ 1 ∷ []) (kind w) 0) (kind w) (w % 2 ^ 24)) (one-shl (a .users) (omega (arith, s .pre))))
-    ∙ rw (← e .kind-of .ensures, ← and-mask w 24) (sym (c .bound-ok .ensures))
+    let r = c .wrapping-sub-u32 .result in
+    let k = e .kind-of .ensures in
+    ap (λ (n : ℕ). ltb r (getD (0 ∷ 1 ∷ a .roles ∷ (n - 1) ∷ 1 ∷ 1 ∷ 1 ∷ 1 ∷ 1 ∷ 1 ∷ []) (e .kind-of .result) 0)) (one-shl (a .users) (omega (arith, s .pre)))
+    ∙ ap (λ (k : ℕ). ltb r (getD (roomsOf (a .users) (a .roles)) k 0)) k
+    ∙ in-room (a .users) (a .roles) (s .pre) (omega (arith, s .fits .roles .fits)) (word e) r (c .wrapping-sub-u32 .ok)
+    (omega (arith, c .before .if1 .left)) (ap (λ (k : ℕ). (r + getD leastWords k 0) % 2 ^ 32) (sym k) ∙ c .wrapping-sub-u32 .ensures)
 
 returns-2 : tie.Need-returns-2 Inv-loop μ-loop
 returns-2 c =
     let e = c .before .before .before in
-    sym (from-i e ∙ rw (in-layout (c .before) ∙ not-true (c .before .bound-ok .result) (c .if2 .taken)))
+    let l = place e in
+    sym (fails (ok l) (start l .args .words .now) (l .loop .i - 1) (omega arith) (sym (in-layout (c .before)) ∙ le-ltb _ _ (c .if2 .taken)))
 
 loop-again : tie.Need-loop-again Inv-loop μ-loop
 loop-again c =
     let e = c .before .before .before in
-    (omega arith, from-i e ∙ rw (in-layout (c .before) ∙ not-false (c .before .bound-ok .result) (c .if2 .left)))
+    let l = place e in
+    let ws = start l .args .words .now in
+    let next : suc (l .loop .i - 1) ≡ l .loop .i = sym (one-add (l .loop .i - 1)) ∙ (let z : 1 + (l .loop .i - 1) ≡ l .loop .i = omega arith in z) in (
+      omega arith,
+      ap (all (ok l)) (drop-cons ws (l .loop .i - 1) 0 (omega arith))
+          ∙ and-join (ok l (word e)) (all (ok l) (drop (suc (l .loop .i - 1)) ws)) (sym (in-layout (c .before)) ∙ lt-ltb _ _ (c .if2 .left)) (rw next (l .loop .inv .1)),
+    )
 
 returns-3 : tie.Need-returns-3 Inv-loop μ-loop
 returns-3 c =
     let l = c .before in
-    sym (l .loop .inv .1 ∙ ap (all (ok l)) (drop-of-length-le (start l .args .words .now) (c .loop-test .left)))
+    let z : l .loop .i ≡ 0 = omega (arith, c .loop-test .left) in
+    sym (rw z at (l .loop .inv .1))
 
 pub words-ok-spec : {M : Type 1} → statement M
 words-ok-spec =
@@ -89,16 +106,19 @@ words-ok-spec =
     Inv-loop
     μ-loop
     (λ c. search needs)
+    sub-t13
     loop-holds
+    (λ c. search needs)
     (λ c. search needs)
     (λ c. search needs)
     (λ c κs. search needs)
     returns
     (λ c. search needs)
     (λ c. search needs)
+    (λ c. search needs)
+    (λ c. search needs)
     (λ c κs. search needs)
     returns-2
-    (λ c. search needs)
     (λ c. omega arith)
     loop-again
     returns-3)
