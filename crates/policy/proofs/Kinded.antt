@@ -3,49 +3,65 @@ use mathlib.Core.Path.{_≡_, refl, sym, _∙_, ap}
 use mathlib.Core.Bool.{Bool, true, false, not, _&&_, cond}
 use mathlib.Core.List.{List, [], _∷_, _++_, map, map-append, append-assoc, append-nil}
 use mathlib.Core.Option.{some}
-use Prim.Native.Nat.{ℕ, suc, _+_, _≤_, _<_}
-use native.Mathlib.Numerals.{one-add}
+use Prim.Native.Nat.{ℕ, _+_, _*_, _%_, _^_, _≤_, _<_}
 use native.Mathlib.Omega.{arith}
+use lib.Bits.{bitOr}
 use lib.Dec.{eqb}
-use lib.ListN.{length, getD, drop, length-map, length-drop}
-use lib.Seq.{drop-cons}
-use borrow.Author.Tests.{ne-eqb}
+use lib.ListN as ListN
+use lib.ListN.{length, getD, take, length-map}
+use lib.Seq.{drop-cons, getD-set-same, getD-set-other, length-take-le, take-add}
+use borrow.Author.Tests.{eqb-true, eqb-false, ne-eqb}
 use Rattle.soda.specs.Bits.{number}
 use Rattle.soda.specs.Terms.{Op, either, both, together, apart, Term, everyone, role, set, ¬ᵗ_, _⁺, bin, sameOp, unit, subterms, marks}
 use Rattle.soda.specs.Words.{opKind}
+use Rattle.soda.proofs.Bools.{by-test}
 use Rattle.soda.proofs.Words.{tag, op-high, same-kind}
 use Rattle.policy.specs.Words.{kind, decode}
 use Rattle.policy.specs.Shapes.{isPlus, isOp}
-use Rattle.policy.specs.Private.{putOf, ofKind, kindsOf, withoutOf}
-use Rattle.policy.specs.declared.shapes.KindMasks.{KindMasks}
-use Rattle.policy.proofs.Masks.{put-is, without-is}
+use Rattle.policy.specs.Private.{ofKind, withoutOf, MasksOf}
+use Rattle.policy.proofs.Masks.{number-append, joined, without-is}
+use Rattle.policy.proofs.Layouts.{one-shl}
 use Rattle.policy.proofs.Grammar.{Begins, begins1, begins2, begins3, begins4, begins5, beginsOp, begins-whole}
 
 -- ── the loop ──
--- the masks with one word more, of kind k
-abbrev pub more : KindMasks → ℕ → KindMasks
-more m k = record {
-  plus = putOf (m .plus) (eqb k 5);
-  either = putOf (m .either) (eqb k 6);
-  both = putOf (m .both) (eqb k 7);
-  together = putOf (m .together) (eqb k 8);
-  apart = putOf (m .apart) (eqb k 9);
-}
+-- word i of kind k entered, with b its bit
+module _ (ws m : List ℕ) (i k b : ℕ) (short : length ws ≤ 31) (inside : i < length ws) (long : length m ≡ 16)
+    (M : MasksOf (take i ws) m) (k-is : k ≡ kind (getD ws i 0) % 16) (b-is : b ≡ 2 ^ i) where
+  -- one word more of the words of kind n
+  module _ (n : ℕ) where
+    abbrev of : ℕ → Bool
+    of w = eqb (kind w % 16) n
 
-module _ (w : ℕ) (ws : List ℕ) (short : length ws ≤ 31) where
-  of-one : (k : ℕ) → putOf (ofKind k ws) (eqb (kind w) k) ≡ ofKind k (w ∷ ws)
-  of-one k = put-is (eqb (kind w) k) (map (λ v. eqb (kind v) k) ws) (omega (arith, length-map ws (λ v. eqb (kind v) k)))
+    abbrev so-far : List Bool
+    so-far = map of (take i ws)
 
-  more-is : more (kindsOf ws) (kind w) ≡ kindsOf (w ∷ ws)
-  more-is = λ i. record { plus = of-one 5 i; either = of-one 6 i; both = of-one 7 i; together = of-one 8 i; apart = of-one 9 i }
+    count : length so-far ≡ i
+    count = length-map (take i ws) of ∙ length-take-le i ws (omega arith)
 
-pub step : (ws : List ℕ) (m : KindMasks) (i j k : ℕ) → length ws ≤ 31 → i ≡ 1 + j → j < length ws → m ≡ kindsOf (drop i ws) → k ≡ kind (getD ws j 0)
-    → more m k ≡ kindsOf (drop j ws)
-step ws m i j k short down inside p q =
-    let e : i ≡ suc j = down ∙ one-add j in
-    (λ i. more ((p ∙ ap (λ (n : ℕ). kindsOf (drop n ws)) e) i) (q i))
-    ∙ more-is (getD ws j 0) (drop (suc j) ws) (omega (arith, length-drop (suc j) ws))
-    ∙ ap kindsOf (sym (drop-cons ws j 0 inside))
+    grows : number (so-far ++ (eqb k n ∷ [])) ≡ ofKind n (take (i + 1) ws)
+    grows =
+        let e : take (i + 1) ws ≡ take i ws ++ (getD ws i 0 ∷ []) = take-add i 1 ws ∙ rw (drop-cons ws i 0 inside) in
+        sym (ap (λ (l : List ℕ). number (map of l)) e ∙ ap number (map-append of (take i ws) (getD ws i 0 ∷ [])) ∙ ap (λ (x : ℕ). number (so-far ++ (eqb x n ∷ []))) (sym k-is))
+
+    own : n < 16 → eqb k n ≡ true → bitOr b (getD m k 0) ≡ ofKind n (take (i + 1) ws)
+    own h e =
+        (λ j. bitOr ((b-is ∙ sym (one-shl i (omega arith))) j) ((ap (λ (x : ℕ). getD m x 0) (eqb-true k n e) ∙ M n h) j))
+        ∙ ap (λ (x : ℕ). bitOr (1 * 2 ^ x % 2 ^ 32) (number so-far)) (sym count)
+        ∙ joined so-far (true ∷ []) (omega (arith, count))
+        ∙ ap (λ (t : Bool). number (so-far ++ (t ∷ []))) (sym e)
+        ∙ grows
+
+    other : n < 16 → eqb k n ≡ false → getD m n 0 ≡ ofKind n (take (i + 1) ws)
+    other h e =
+        M n h
+        ∙ (let z : number so-far ≡ number (so-far ++ (false ∷ [])) = omega (arith, number-append so-far (false ∷ [])) in z)
+        ∙ ap (λ (t : Bool). number (so-far ++ (t ∷ []))) (sym e)
+        ∙ grows
+
+  pub step : MasksOf (take (i + 1) ws) (ListN.set m k (bitOr b (getD m k 0)))
+  step n h = by-test (eqb k n)
+      (λ e. rw (← eqb-true k n e) (getD-set-same m k (bitOr b (getD m k 0)) 0 (omega (arith, eqb-true k n e))) ∙ own n h e)
+      λ e. getD-set-other m k n (bitOr b (getD m k 0)) 0 (λ z. eqb-false k n e (sym z)) ∙ other n h e
 
 -- ── the kinds of a term's words ──
 module _ (f : ℕ → Bool) where
@@ -70,34 +86,40 @@ module _ (f : ℕ → Bool) where
 low : (k : ℕ) (op : Op) → k < 6 → eqb k (opKind op) ≡ false
 low k op h = ne-eqb k (opKind op) (λ e. omega (arith, op-high op))
 
+low-bits : (op : Op) → opKind op % 16 ≡ opKind op
+low-bits either = refl
+low-bits both = refl
+low-bits together = refl
+low-bits apart = refl
+
 pick : (a b : Bool) → (a && not b) ≡ cond b false a
 pick true true = refl
 pick true false = refl
 pick false true = refl
 pick false false = refl
 
-own-op : (op : Op) (φ : Term) → (eqb (tag φ) (opKind op) && not (unit φ)) ≡ isOp op φ
+own-op : (op : Op) (φ : Term) → (eqb (tag φ % 16) (opKind op) && not (unit φ)) ≡ isOp op φ
 own-op op everyone = rw (low 1 op (omega arith))
 own-op op (role r) = rw (low 2 op (omega arith))
 own-op op (set m) = rw (low 3 op (omega arith))
 own-op op (¬ᵗ φ) = rw (low 4 op (omega arith))
 own-op op (φ ⁺) = rw (low 5 op (omega arith))
-own-op op (bin o φ ψ) = rw (same-kind op o) (pick (sameOp op o) (unit (bin o φ ψ)))
+own-op op (bin o φ ψ) = rw (low-bits o, same-kind op o) (pick (sameOp op o) (unit (bin o φ ψ)))
 
-own-plus : (φ : Term) → eqb (tag φ) 5 ≡ isPlus φ
+own-plus : (φ : Term) → eqb (tag φ % 16) 5 ≡ isPlus φ
 own-plus everyone = refl
 own-plus (role r) = refl
 own-plus (set m) = refl
 own-plus (¬ᵗ φ) = refl
 own-plus (φ ⁺) = refl
-own-plus (bin op φ ψ) = ne-eqb (opKind op) 5 (λ e. omega (arith, op-high op))
+own-plus (bin op φ ψ) = rw (low-bits op) (ne-eqb (opKind op) 5 (λ e. omega (arith, op-high op)))
 
 module _ (ws : List ℕ) (φ : Term) (d : decode ws ≡ some φ) where
   pub plus-is : ofKind 5 ws ≡ marks isPlus φ
-  plus-is = kinds-are (λ k. eqb k 5) ws φ d ∙ (λ i. marks (λ ψ. own-plus ψ i) φ)
+  plus-is = kinds-are (λ k. eqb (k % 16) 5) ws φ d ∙ (λ i. marks (λ ψ. own-plus ψ i) φ)
 
   pub op-is : (op : Op) → withoutOf (ofKind (opKind op) ws) (marks unit φ) ≡ marks (isOp op) φ
   op-is op =
-      ap (λ (m : ℕ). withoutOf m (marks unit φ)) (kinds-are (λ k. eqb k (opKind op)) ws φ d)
-      ∙ without-is (λ ψ. eqb (tag ψ) (opKind op)) unit (subterms φ)
+      ap (λ (m : ℕ). withoutOf m (marks unit φ)) (kinds-are (λ k. eqb (k % 16) (opKind op)) ws φ d)
+      ∙ without-is (λ ψ. eqb (tag ψ % 16) (opKind op)) unit (subterms φ)
       ∙ (λ i. marks (λ ψ. own-op op ψ i) φ)

@@ -21,7 +21,7 @@ put-is b l h =
     ∙ (let z : number l * 2 + cond b 1 0 ≡ cond b 1 0 + 2 * number l = omega arith in z)
 
 -- one mask behind another
-number-append : (l m : List Bool) → number (l ++ m) ≡ number m * 2 ^ length l + number l
+pub number-append : (l m : List Bool) → number (l ++ m) ≡ number m * 2 ^ length l + number l
 number-append [] m = sym (mul-one (number m)) ∙ sym (add-zero (number m * 1))
 number-append (b ∷ l) m =
     let e : number m * 2 ^ suc (length l) ≡ 2 * (number m * 2 ^ length l) = ap (λ (x : ℕ). number m * x) (pow-succ' 2 (length l)) ∙ mul-left-comm (number m) 2 (2 ^ length l) in

@@ -3,9 +3,10 @@ use mathlib.Core.Path.{_≡_}
 use mathlib.Core.Bool.{Bool, true, false, not, _&&_, _||_, cond}
 use mathlib.Core.List.{List, [], _∷_, map}
 use mathlib.Core.Option.{Option, some, none}
-use Prim.Native.Nat.{ℕ, _+_, _-_, _*_, _/_, _%_, _^_}
+use Prim.Native.Nat.{ℕ, _+_, _-_, _*_, _/_, _%_, _^_, _<_}
 use lib.Bits.{bitAnd, bitOr}
 use lib.Dec.{leb, ltb, eqb}
+use lib.ListN.{getD}
 use Rattle.soda.specs.Lists.{padded}
 use Rattle.soda.specs.Bits.{bit, number}
 use Rattle.soda.specs.Terms.{Term, unit, wellFormed, size, marks}
@@ -16,7 +17,6 @@ use Rattle.policy.specs.Shapes.{rightSides}
 use Rattle.policy.specs.declared.reader.First.{First}
 use Rattle.policy.specs.declared.terms.Stack.{Stack}
 use Rattle.policy.specs.declared.terms.Analysis.{Analysis}
-use Rattle.policy.specs.declared.shapes.KindMasks.{KindMasks}
 
 -- a kind of 01's table
 abbrev pub known : ℕ → Bool
@@ -107,12 +107,13 @@ abbrev pub analysisIn : ℕ → ℕ → Option Term → Analysis
 analysisIn u h none = record { formed = false; units = 0; noted = 0 }
 analysisIn u h (some φ) = record { formed = wellFormed φ; units = marks unit φ; noted = metBits φ u h }
 
--- the words of kind k
+-- the words of kind k, below 16, by a kind's low four bits
 abbrev pub ofKind : ℕ → List ℕ → ℕ
-ofKind k ws = number (map (λ w. eqb (kind w) k) ws)
+ofKind k ws = number (map (λ w. eqb (kind w % 16) k) ws)
 
-abbrev pub kindsOf : List ℕ → KindMasks
-kindsOf ws = record { plus = ofKind PLUS ws; either = ofKind EITHER ws; both = ofKind BOTH ws; together = ofKind TOGETHER ws; apart = ofKind APART ws }
+-- r has the words of each kind
+abbrev pub MasksOf : List ℕ → List ℕ → Type 0
+MasksOf ws r = (k : ℕ) → k < 16 → getD r k 0 ≡ ofKind k ws
 
 abbrev pub withoutOf : ℕ → ℕ → ℕ
 withoutOf m n = m - bitAnd m n

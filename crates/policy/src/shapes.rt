@@ -4,52 +4,28 @@ ghost use mathlib.Core.Option.{none};
 ghost use Prim.Native.Nat.{_≤_};
 ghost use lib.ListN.{length};
 ghost use Rattle.policy.specs.Shapes.{shapeIn, shapeOf};
-ghost use Rattle.policy.specs.Private.{kindsOf, withoutOf, RightsOf};
+ghost use Rattle.policy.specs.Private.{withoutOf, MasksOf, RightsOf};
 use super::Shape;
 use super::kinds;
 use super::terms::analyse;
-use super::terms::put;
 use super::words::kind_of;
 use super::words::length_ok;
-use super::words::sides_of;
 
-// For each row of the table but "unit", the words of its kind.
-struct KindMasks {
-    plus: u32,
-    either: u32,
-    both: u32,
-    together: u32,
-    apart: u32,
-}
-
-// No word yet.
-const NO_KINDS: KindMasks = KindMasks {
-    plus: 0,
-    either: 0,
-    both: 0,
-    together: 0,
-    apart: 0,
-};
-
-// The words of each kind.
-fn kind_masks(words: &[u32]) -> KindMasks
+// The words of each kind, by the kind's low four bits: those tell 01's kinds from each other.
+fn kind_masks(words: &[u32]) -> [u32; 16]
     requires { ⌜ length (now words) ≤ 31 ⌝ }
-    ensures { λ r. ⌜ r ≡ kindsOf (now (words .entry)) ⌝ }
+    ensures { λ r. ⌜ MasksOf (now (words .entry)) r ⌝ }
 {
-    let mut m = NO_KINDS;
-    let mut i = words.len();
-    while 0 < i {
-        i -= 1;
-        let k = kind_of(words[i]);
-        m = KindMasks {
-            plus: put(m.plus, k == kinds::PLUS),
-            either: put(m.either, k == kinds::EITHER),
-            both: put(m.both, k == kinds::BOTH),
-            together: put(m.together, k == kinds::TOGETHER),
-            apart: put(m.apart, k == kinds::APART),
-        };
+    let mut masks = [0u32; 16];
+    let mut bit = 1u32;
+    let mut i = 0;
+    while i < words.len() {
+        let k = kind_of(words[i]) & 15;
+        masks[k] = bit | masks[k];
+        bit = bit << 1;
+        i += 1;
     }
-    m
+    masks
 }
 
 // A set without the members of another.
@@ -72,11 +48,11 @@ fn rights(words: &[u32]) -> [u8; 31]
         let next = i as u8;
         let first_end = end[i];
         i -= 1;
-        let n = sides_of(kind_of(words[i]));
-        let side = if n == 2 { first_end } else { next };
+        let k = kind_of(words[i]);
+        let side = if kinds::EITHER <= k { first_end } else { next };
         let side_end = end[side as usize];
         right[i] = side;
-        end[i] = if n == 0 { next } else { side_end };
+        end[i] = if k < kinds::NOT { next } else { side_end };
     }
     right
 }
@@ -108,16 +84,16 @@ pub fn shape_of(words: &[u32]) -> Shape
     if !t.formed {
         return no_shape();
     }
-    let m = kind_masks(words);
+    let masks = kind_masks(words);
     let right = rights(words);
     Shape {
         words: words.len() as u8,
         units: t.units,
-        plus: m.plus,
-        either: without(m.either, t.units),
-        both: without(m.both, t.units),
-        together: without(m.together, t.units),
-        apart: without(m.apart, t.units),
+        plus: masks[kinds::PLUS],
+        either: without(masks[kinds::EITHER], t.units),
+        both: without(masks[kinds::BOTH], t.units),
+        together: without(masks[kinds::TOGETHER], t.units),
+        apart: without(masks[kinds::APART], t.units),
         right,
     }
 }

@@ -1,14 +1,14 @@
 -- The invariant: the words from i on are done.
-use mathlib.Core.Path.{_≡_, _∙_, ap}
+use mathlib.Core.Path.{_≡_, _∙_}
 use mathlib.Core.Logic.{⊎-elim}
 use mathlib.Core.Bool.{cond}
 use Prim.Native.Nat.{_-_, _≤_}
 use native.Mathlib.Omega.{arith}
-use lib.Dec.{eqb}
+use lib.Dec.{leb, ltb}
 use lib.ListN.{length, getD}
 use borrow.Author.Needs.{needs}
-use borrow.Author.Tests.{eq-eqb, ne-eqb}
-use Rattle.policy.specs.Words.{sides}
+use borrow.Author.Tests.{lt-ltb, le-ltb, le-leb, lt-leb}
+use Rattle.policy.specs.Kinds.{NOT, EITHER}
 use Rattle.policy.proofs.Ends.{Done, begin, step, finished}
 use Rattle.policy.proofs.shapes.rights.Statement.{statement}
 use Rattle.policy.proofs.shapes.rights.Tie as tie
@@ -22,9 +22,9 @@ abbrev μ-loop : tie.MeasureT-loop
 loop-holds : tie.Need-loop-holds Inv-loop μ-loop
 loop-holds c = (omega arith, begin _ (c .before .pre))
 
--- where the word's sides are known, the loop's place, and the start
-abbrev place : tie.After-sides-of Inv-loop μ-loop → tie.At-loop Inv-loop μ-loop
-place c = c .before .before .before .before
+-- where the word's kind is read, the loop's place, and the start
+abbrev place : tie.After-kind-of Inv-loop μ-loop → tie.At-loop Inv-loop μ-loop
+place c = c .before .before .before
 
 abbrev start : tie.At-loop Inv-loop μ-loop → tie.Start Inv-loop μ-loop
 start c = c .before .before
@@ -34,17 +34,17 @@ sided c = c .before .before
 
 side-is : (c : tie.Joined1 Inv-loop μ-loop) →
     let at = place (c .before) .loop in
-    c .if1 .side ≡ cond (eqb (c .before .sides-of .result) 2) (getD (at .end) (at .i) 0) (at .i)
+    c .if1 .side ≡ cond (leb EITHER (c .before .kind-of .result)) (getD (at .end) (at .i) 0) (at .i)
 side-is c =
-    let n = c .before .sides-of .result in
-    ⊎-elim (λ w. w .1 ∙ rw (eq-eqb n 2 (w .0 .taken))) (λ w. w .1 ∙ rw (ne-eqb n 2 (w .0 .left))) (c .if1 .came)
+    let k = c .before .kind-of .result in
+    ⊎-elim (λ w. w .1 ∙ rw (le-leb EITHER k (w .0 .taken))) (λ w. w .1 ∙ rw (lt-leb EITHER k (w .0 .left))) (c .if1 .came)
 
 end-is : (c : tie.Joined2 Inv-loop μ-loop) →
     let at = place (sided c .before) .loop in
-    c .if2 .end ≡ cond (eqb (sided c .before .sides-of .result) 0) (at .i) (getD (at .end) (sided c .if1 .side) 0)
+    c .if2 .end ≡ cond (ltb (sided c .before .kind-of .result) NOT) (at .i) (getD (at .end) (sided c .if1 .side) 0)
 end-is c =
-    let n = sided c .before .sides-of .result in
-    ⊎-elim (λ w. w .1 ∙ rw (eq-eqb n 0 (w .0 .taken))) (λ w. w .1 ∙ rw (ne-eqb n 0 (w .0 .left))) (c .if2 .came)
+    let k = sided c .before .kind-of .result in
+    ⊎-elim (λ w. w .1 ∙ rw (lt-ltb k NOT (w .0 .taken))) (λ w. w .1 ∙ rw (le-ltb k NOT (w .0 .left))) (c .if2 .came)
 
 array-read-side-end : tie.Need-array-read-side-end Inv-loop μ-loop
 array-read-side-end c =
@@ -58,8 +58,8 @@ loop-again c =
     let at = l .loop in
     let b = start l in (
       omega arith,
-      step (b .args .words .now) (at .right) (at .end) (at .i) (at .i - 1) (s .sides-of .result) (sided c .if1 .side) (c .if2 .end)
-          (b .pre) (omega arith) (omega arith) (at .inv .1) (s .sides-of .ensures ∙ ap sides (s .before .kind-of .ensures)) (side-is (sided c))
+      step (b .args .words .now) (at .right) (at .end) (at .i) (at .i - 1) (s .kind-of .result) (sided c .if1 .side) (c .if2 .end)
+          (b .pre) (omega arith) (omega arith) (at .inv .1) (s .kind-of .ensures) (side-is (sided c))
           (end-is c),
     )
 
@@ -82,7 +82,6 @@ rights-spec =
     (λ c. search needs)
     (λ c. search needs)
     (λ c. search needs)
-    (λ c κs. search needs)
     (λ c κs. search needs)
     array-read-side-end
     (λ c. search needs)

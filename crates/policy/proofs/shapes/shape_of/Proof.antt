@@ -3,18 +3,19 @@ use mathlib.Core.Path.{_≡_, refl, sym, _∙_, ap}
 use mathlib.Core.Bool.{true, false, true≢false}
 use mathlib.Core.List.{List}
 use mathlib.Core.Option.{Option, some, none}
-use Prim.Native.Nat.{ℕ, _≤_}
+use Prim.Native.Nat.{ℕ, _≤_, _<_}
 use native.Mathlib.Omega.{arith}
-use lib.ListN.{length}
+use lib.ListN.{length, getD}
 use borrow.Author.Needs.{needs}
 use borrow.Author.Tests.{not-true, not-false}
-use Rattle.soda.specs.Terms.{either, both, together, apart, Term, unit, size, marks}
+use Rattle.soda.specs.Terms.{Op, either, both, together, apart, Term, unit, size, marks}
+use Rattle.soda.specs.Words.{opKind}
+use Rattle.policy.specs.Kinds.{PLUS, EITHER, BOTH, TOGETHER, APART}
 use Rattle.policy.specs.Words.{decode}
 use Rattle.policy.specs.Reading.{lengthOk}
-use Rattle.policy.specs.Shapes.{blankShape, shapeIn, shapeOf}
-use Rattle.policy.specs.Private.{analysisIn, kindsOf, withoutOf, RightsOf}
+use Rattle.policy.specs.Shapes.{isOp, blankShape, shapeIn, shapeOf}
+use Rattle.policy.specs.Private.{analysisIn, withoutOf, MasksOf, RightsOf}
 use Rattle.policy.specs.declared.terms.Analysis.{Analysis}
-use Rattle.policy.specs.declared.shapes.KindMasks.{KindMasks}
 use Rattle.policy.specs.declared.Shape.{Shape}
 use Rattle.policy.proofs.Grammar.{length-begins, begins-whole}
 use Rattle.policy.proofs.Scanning.{length-range}
@@ -22,35 +23,38 @@ use Rattle.policy.proofs.Kinded.{plus-is, op-is}
 use Rattle.policy.proofs.shapes.shape_of.Statement.{statement}
 use Rattle.policy.proofs.shapes.shape_of.Tie as tie
 
-abbrev shaped : ℕ → Analysis → KindMasks → List ℕ → Shape
-shaped n t m right = record {
+abbrev shaped : ℕ → Analysis → List ℕ → List ℕ → Shape
+shaped n t masks right = record {
   words = n;
   units = t .units;
-  plus = m .plus;
-  either = withoutOf (m .either) (t .units);
-  both = withoutOf (m .both) (t .units);
-  together = withoutOf (m .together) (t .units);
-  apart = withoutOf (m .apart) (t .units);
+  plus = getD masks PLUS 0;
+  either = withoutOf (getD masks EITHER 0) (t .units);
+  both = withoutOf (getD masks BOTH 0) (t .units);
+  together = withoutOf (getD masks TOGETHER 0) (t .units);
+  apart = withoutOf (getD masks APART 0) (t .units);
   right = right;
 }
 
-is-shape : (ws right : List ℕ) → RightsOf ws right → (x : Option Term) → decode ws ≡ x → analysisIn 0 0 x .formed ≡ true
-    → shaped (length ws) (analysisIn 0 0 x) (kindsOf ws) right ≡ shapeIn x
-is-shape ws right r none d f = absurd (true≢false (sym f))
-is-shape ws right r (some φ) d f =
+is-shape : (ws masks right : List ℕ) → MasksOf ws masks → RightsOf ws right → (x : Option Term) → decode ws ≡ x → analysisIn 0 0 x .formed ≡ true
+    → shaped (length ws) (analysisIn 0 0 x) masks right ≡ shapeIn x
+is-shape ws masks right m r none d f = absurd (true≢false (sym f))
+is-shape ws masks right m r (some φ) d f =
     rw f λ i. record {
       words = words i;
       units = marks unit φ;
-      plus = plus-is ws φ d i;
-      either = op-is ws φ d either i;
-      both = op-is ws φ d both i;
-      together = op-is ws φ d together i;
-      apart = op-is ws φ d apart i;
+      plus = (m PLUS (omega arith) ∙ plus-is ws φ d) i;
+      either = row either (omega arith) i;
+      both = row both (omega arith) i;
+      together = row together (omega arith) i;
+      apart = row apart (omega arith) i;
       right = r φ d i;
     }
   where
     words : length ws ≡ size φ
     words = omega (arith, length-begins (begins-whole ws φ d))
+
+    row : (op : Op) → opKind op < 16 → withoutOf (getD masks (opKind op) 0) (marks unit φ) ≡ marks (isOp op) φ
+    row op h = ap (λ (n : ℕ). withoutOf n (marks unit φ)) (m (opKind op) h) ∙ op-is ws φ d op
 
 no-shape-of : (x : Option Term) → analysisIn 0 0 x .formed ≡ false → blankShape ≡ shapeIn x
 no-shape-of none f = refl
@@ -97,8 +101,8 @@ returns-3 c =
       w .without .ensures,
       long (j .before),
     )
-    ((λ i. shaped (length ws) (j .analyse .ensures i) (m .kind-masks .ensures i) (r .rights .result))
-    ∙ is-shape ws (r .rights .result) (r .rights .ensures) (decode ws) refl
+    (ap (λ (t : Analysis). shaped (length ws) t (m .kind-masks .result) (r .rights .result)) (j .analyse .ensures)
+    ∙ is-shape ws (m .kind-masks .result) (r .rights .result) (m .kind-masks .ensures) (r .rights .ensures) (decode ws) refl
     (ap (λ (t : Analysis). t .formed) (sym (j .analyse .ensures)) ∙ not-false (j .analyse .result .formed) (m .before .if2 .left)))
 
 pub shape-of-spec : {M : Type 1} → statement M
@@ -114,8 +118,13 @@ shape-of-spec =
     (λ c κs. short (analysed c .before))
     (λ c κs. short (analysed (c .before) .before))
     (λ c. omega (arith, short (analysed (c .before .before) .before)))
+    (λ c. search needs)
+    (λ c. search needs)
     (λ c κs. search needs)
+    (λ c. search needs)
     (λ c κs. search needs)
+    (λ c. search needs)
     (λ c κs. search needs)
+    (λ c. search needs)
     (λ c κs. search needs)
     returns-3)
