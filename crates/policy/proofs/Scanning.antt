@@ -3,7 +3,7 @@ use mathlib.Core.Path.{_≡_, refl, sym, _∙_, ap, ap₂}
 use mathlib.Core.Bool.{Bool, true, false, So, _&&_, cond}
 use mathlib.Core.List.{List, [], _∷_, _++_, map, map-append}
 use mathlib.Core.Option.{Option, some, none}
-use Prim.Native.Nat.{ℕ, _+_, _*_, _%_, _^_, _≤_, _<_}
+use Prim.Native.Nat.{ℕ, zero, suc, _+_, _*_, _%_, _^_, _≤_, _<_}
 use native.Mathlib.Omega.{arith}
 use lib.Bits.{bitOr}
 use lib.Dec.{leb, ltb, eqb}
@@ -20,8 +20,8 @@ use Rattle.soda.proofs.Terms.{size-pos, subterms-length}
 use Rattle.policy.specs.Words.{kind, operand, sides, kindOf, head, tail, push, row, first, decode}
 use Rattle.policy.specs.Reading.{countOk}
 use Rattle.policy.specs.Accepted.{CountsInRange, LengthInRange}
-use Rattle.policy.specs.Kinds.{TOGETHER}
-use Rattle.policy.specs.Private.{known, putOf, firstIn, overSide, besideSides}
+use Rattle.policy.specs.Kinds.{EVERYONE, SET, TOGETHER}
+use Rattle.policy.specs.Private.{known, leaf, putOf, firstIn, overSide, besideSides}
 use Rattle.policy.specs.declared.reader.First.{First}
 use Rattle.policy.proofs.Masks.{put-is, joined}
 use Rattle.policy.proofs.Grammar.{unit-op, Row, row1, row2, row3, row4, row5, rowOp, known-row, unknown-bad, push-op, begins, row-begins, length-begins, decode-missing, decode-first}
@@ -55,6 +55,19 @@ first-word k (w ∷ ws) h e = rw (e, from-drop 1 (w ∷ ws))
 pub word-known : (ws : List ℕ) (k n : ℕ) → (length ws ≡ 0 → ⊥) → k ≡ kind (getD ws 0 0) → known k ≡ true → n ≡ sides k → Word ws k n
 word-known ws k n h e t q =
     let i : 0 < length ws = omega arith in record { inside = i; kind-row = known-row k n t q; is = first-word k ws i e }
+
+pub word-leaf : (ws : List ℕ) (k : ℕ) → (length ws ≡ 0 → ⊥) → k ≡ kind (getD ws 0 0) → leaf k ≡ true → Word ws k 0
+word-leaf ws k h e t =
+    let i : 0 < length ws = omega arith in
+    let s = and-split (leb EVERYONE k) (leb k SET) t in
+    record { inside = i; kind-row = row-leaf k (leb-true EVERYONE k (s .0)) (leb-true k SET (s .1)); is = first-word k ws i e }
+  where
+    row-leaf : (k : ℕ) → 1 ≤ k → k ≤ 3 → Row k 0
+    row-leaf zero l m = absurd (omega arith)
+    row-leaf (suc zero) l m = row1
+    row-leaf (suc (suc zero)) l m = row2
+    row-leaf (suc (suc (suc zero))) l m = row3
+    row-leaf (suc (suc (suc (suc k)))) l m = absurd (omega arith)
 
 pub word-unknown : (ws : List ℕ) (k : ℕ) → (length ws ≡ 0 → ⊥) → k ≡ kind (getD ws 0 0) → known k ≡ false → first ws ≡ none
 word-unknown ws k h e t = first-word k ws (omega arith) e ∙ rw (unknown-bad k t)

@@ -22,6 +22,10 @@ use Rattle.policy.specs.declared.terms.Analysis.{Analysis}
 abbrev pub known : ℕ → Bool
 known k = leb EVERYONE k && leb k APART
 
+-- a kind without sides
+abbrev pub leaf : ℕ → Bool
+leaf k = leb EVERYONE k && leb k SET
+
 -- for each kind of 01's table, the least word that may be in the layout, and how many are from it on
 abbrev pub leastWords : List ℕ
 leastWords =

@@ -7,13 +7,14 @@ ghost use Rattle.policy.specs.Private.{firstIn, overSide, besideSides};
 use super::kinds;
 use super::terms::put;
 use super::words::is_known;
+use super::words::is_leaf;
 use super::words::kind_of;
 use super::words::sides_of;
 
 // What is read of the first term of some words: how many words it has, 0 if they begin with none; whether it is a unit term, and well
 // formed; and those of its words that begin unit terms.
 pub(crate) struct First {
-    pub words: u8,
+    pub words: usize,
     pub unit: bool,
     pub formed: bool,
     pub units: u32,
@@ -59,8 +60,22 @@ fn beside_sides(k: usize, a: First, b: First) -> First
         words: 1 + a.words + b.words,
         unit,
         formed: a.formed & b.formed,
-        units: put((b.units << a.words) | a.units, unit),
+        units: put((b.units << a.words as u32) | a.units, unit),
     }
+}
+
+// Reads the first term of the words, a side of another: a term of one word is read without a call.
+fn side(words: &[u32]) -> First
+    requires { ⌜ length (now words) ≤ 31 ⌝ }
+    ensures { λ r. ⌜ r ≡ firstIn (first (now (words .entry))) ⌝ }
+{
+    if words.len() == 0 {
+        return NO_TERM;
+    }
+    if is_leaf(kind_of(words[0])) {
+        return ONE_WORD;
+    }
+    scan(words)
 }
 
 // Reads the first term of the words.
@@ -79,15 +94,15 @@ pub(crate) fn scan(words: &[u32]) -> First
     if n == 0 {
         return ONE_WORD;
     }
-    let a = scan(&words[1..]);
+    let a = side(&words[1..]);
     if a.words == 0 {
         return NO_TERM;
     }
     if n == 1 {
         return over_side(k, a);
     }
-    let second = 1 + a.words as usize;
-    let b = scan(&words[second..]);
+    let second = 1 + a.words;
+    let b = side(&words[second..]);
     if b.words == 0 {
         return NO_TERM;
     }

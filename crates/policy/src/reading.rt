@@ -24,7 +24,7 @@ pub fn read(users: u8, roles: u8, words: &[u32]) -> PolicyRead
         return PolicyRead::Refused(codes::WORD);
     }
     let t = scan(words);
-    if t.words as usize != words.len() {
+    if t.words != words.len() {
         return PolicyRead::Refused(codes::TERM);
     }
     if !t.formed {

@@ -6,7 +6,7 @@ ghost use Rattle.soda.specs.Bits.{bit};
 ghost use Rattle.soda.specs.Lists.{all};
 ghost use Rattle.policy.specs.Words.{kind, operand, sides, wordOk};
 ghost use Rattle.policy.specs.Reading.{countOk, lengthOk};
-ghost use Rattle.policy.specs.Private.{known};
+ghost use Rattle.policy.specs.Private.{known, leaf};
 use super::kinds;
 use std::num;
 
@@ -39,6 +39,13 @@ pub(crate) fn is_known(k: usize) -> bool
     ensures { λ r. ⌜ r ≡ known k ⌝ }
 {
     (kinds::EVERYONE <= k) & (k <= kinds::APART)
+}
+
+// Whether a word of kind k is a term by itself.
+pub(crate) fn is_leaf(k: usize) -> bool
+    ensures { λ r. ⌜ r ≡ leaf k ⌝ }
+{
+    (kinds::EVERYONE <= k) & (k <= kinds::SET)
 }
 
 // Whether i is in a set: its bit i.

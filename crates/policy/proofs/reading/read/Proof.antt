@@ -132,7 +132,6 @@ read-spec =
     words-ok-requires
     returns-3
     (λ c κs. short c)
-    (λ c. search needs)
     returns-4
     returns-5
     returns-6)
