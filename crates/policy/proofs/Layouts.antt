@@ -35,6 +35,10 @@ module _ (users roles : ℕ) (hu : users ≤ 16) (hr : roles ≤ 2 ^ 16) (w r : 
   abbrev between : ℕ
   between = w / 2 ^ 16 % 2 ^ 8
 
+  -- from the kind's word with operand 0 on, the bits below the kind
+  low : {k : ℕ} → kind w ≡ k → (r + k * 2 ^ 24) % 2 ^ 32 ≡ w → r ≡ w % 2 ^ 24
+  low k e = omega arith
+
   -- the one word of a kind without an operand
   plain : r ≡ w % 2 ^ 24 → ltb r 1 ≡ (eqb between 0 && eqb (operand w) 0)
   plain e = same-test (ltb r 1) (eqb between 0 && eqb (operand w) 0)
@@ -72,18 +76,18 @@ module _ (users roles : ℕ) (hu : users ≤ 16) (hr : roles ≤ 2 ^ 16) (w r : 
   InRoom k = kind w ≡ k → (r + getD leastWords k 0) % 2 ^ 32 ≡ w → ltb r (getD (roomsOf users roles) k 0) ≡ wordOk users roles w
 
   by-row : {k n : ℕ} → Row k n → InRoom k
-  by-row row1 k e = rw k (plain (omega arith))
-  by-row row2 k e = rw k (role-word (omega arith))
+  by-row row1 k e = rw k (plain (low k e))
+  by-row row2 k e = rw k (role-word (low k e))
   by-row row3 k e = rw k (set-word k e)
-  by-row row4 k e = rw k (plain (omega arith))
-  by-row row5 k e = rw k (plain (omega arith))
+  by-row row4 k e = rw k (plain (low k e))
+  by-row row5 k e = rw k (plain (low k e))
   by-row (rowOp op) k e = by-op op k e
     where
       by-op : (op : Op) → InRoom (opKind op)
-      by-op either k e = rw k (plain (omega arith))
-      by-op both k e = rw k (plain (omega arith))
-      by-op together k e = rw k (plain (omega arith))
-      by-op apart k e = rw k (plain (omega arith))
+      by-op either k e = rw k (plain (low k e))
+      by-op both k e = rw k (plain (low k e))
+      by-op together k e = rw k (plain (low k e))
+      by-op apart k e = rw k (plain (low k e))
 
   pub in-room : kind w ≤ 9 → (r + getD leastWords (kind w) 0) % 2 ^ 32 ≡ w → ltb r (getD (roomsOf users roles) (kind w) 0) ≡ wordOk users roles w
   in-room l e = elim (row-of (kind w)) [
