@@ -1,4 +1,4 @@
--- What the fill's private functions compute: the digits of packed rows, the parts of a set, and what the tables hold.
+-- What the fill's private functions compute: the digits of packed rows, the parts of a set, and what the table of sets holds.
 use mathlib.Core.Path.{_≡_}
 use mathlib.Core.Bool.{Bool, true, false, So, _&&_, _||_, cond}
 use mathlib.Core.List.{List, Perm}
@@ -180,7 +180,7 @@ pub data Twin (alike top t twin : ℕ) : ℕ → Type 0 where
   other-set : twin < t → Twin alike top t twin (top + twin)
   other-action : (k : ℕ) → So (bit k alike) → bit k t ≡ false → Twin alike top t twin (2 ^ k + t)
 
--- ── the tables ──
+-- ── what stands in the table ──
 -- the masks and the operators are those of the policy φ
 pub record Suited (φ : Term) (m : Masks) (ops : List ℕ) : Type 0 where
   pub formed : So (wellFormed φ)
