@@ -11,7 +11,7 @@ use lib.Seq.{append-snoc}
 use borrow.Author.Tests.{ne-eqb}
 use Rattle.soda.specs.Lists.{all}
 use Rattle.soda.proofs.Bools.{lt-so}
-use Rattle.soda.proofs.Splits.{split-append, all-parts}
+use Rattle.soda.proofs.Splits.{split-append, all-parts, all-replicate}
 use Rattle.soda.specs.declared.Action.{Action}
 use Rattle.monitor.specs.declared.Configuration.{Configuration}
 use Rattle.monitor.specs.declared.Instance.{Instance}
@@ -19,7 +19,6 @@ use Rattle.monitor.specs.Configurations.{isZero}
 use Rattle.monitor.specs.Instances.{policyOf, takenOf, notedFor, withAction}
 use Rattle.monitor.specs.MultisetTest.{total, listed}
 use Rattle.monitor.specs.Private.{adding}
-use Rattle.monitor.proofs.Loops.{all-replicate}
 use Rattle.monitor.proofs.Fillable.{taken-more}
 
 -- ── adding ──

@@ -11,8 +11,7 @@ pub mod Reading
 pub mod Effects
 pub mod Order
 pub mod Preserved
--- The workspace: what is read from it, and when it is filled.
-pub mod Verdicts
+-- The workspace: when it is filled.
 pub mod Fillable
 pub mod Adding
 pub mod Counted

@@ -1,15 +1,14 @@
 -- What loops keep: a test of all elements from a place on, and a list copied into an array of zeros.
-use mathlib.Core.Path.{_≡_, refl, sym, ap, _∙_}
-use mathlib.Core.Bool.{Bool, true, false, So, _&&_}
+use mathlib.Core.Path.{_≡_, sym, ap, _∙_}
+use mathlib.Core.Bool.{Bool, true, false, _&&_}
 use mathlib.Core.List.{List, _++_}
-use Prim.Native.Nat.{ℕ, zero, suc, _+_, _-_, _≤_, _<_}
+use Prim.Native.Nat.{ℕ, suc, _+_, _-_, _≤_, _<_}
 use native.Mathlib.Nat.{le-of-lt}
 use native.Mathlib.Omega.{arith}
 use native.Mathlib.Numerals.{add-one}
 use lib.ListN.{length, getD, take, drop, set, replicate, drop-of-length-le}
 use lib.Seq.{drop-cons, take-suc, take-length, length-take-le, set-at, append-snoc}
 use Rattle.soda.specs.Lists.{all, padded}
-use Rattle.soda.proofs.Bools.{and-join}
 
 -- A loop that tests elements one by one, and is at place i: the test of all, which is b, is that of those from i on.
 module _ {A : Type 0} (f : A → Bool) (xs : List A) (d : A) (i : ℕ) {b : Bool} (kept : b ≡ all f (drop i xs)) where
@@ -27,10 +26,6 @@ module _ {A : Type 0} (f : A → Bool) (xs : List A) (d : A) (i : ℕ) {b : Bool
   -- none is left
   pub all-end : length xs ≤ i → true ≡ b
   all-end h = sym (kept ∙ ap (all f) (drop-of-length-le xs h))
-
-pub all-replicate : {A : Type 0} (f : A → Bool) (n : ℕ) (a : A) → So (f a) → So (all f (replicate n a))
-all-replicate f zero a h = refl
-all-replicate f (suc n) a h = and-join (f a) (all f (replicate n a)) h (all-replicate f n a h)
 
 -- an array of n zeros into which i elements are copied
 abbrev pub copied : ℕ → List ℕ → ℕ → List ℕ

@@ -19,7 +19,7 @@ use Rattle.soda.specs.Terms.{Term, unit, subterms}
 use Rattle.soda.specs.Roles.{meets}
 use Rattle.soda.proofs.Bools.{never, and-split, and-join, so-lt, lt-so, eq-so, so-eq, by-test}
 use Rattle.soda.proofs.Bits.{half-digit}
-use Rattle.soda.proofs.Splits.{split-append, all-parts}
+use Rattle.soda.proofs.Splits.{split-append, all-parts, all-replicate}
 use Rattle.policy.specs.Words.{decode}
 use Rattle.policy.specs.Reading.{lengthOk, unitsOf, metIn, metOf}
 use Rattle.policy.proofs.Refusals.{clear, clear-code}
@@ -35,7 +35,6 @@ use Rattle.monitor.specs.Laws.{Passed}
 use Rattle.monitor.specs.Effects.{OpenedIsWellFormed, AcceptedStaysWellFormed, EventKeepsWellFormed}
 use Rattle.monitor.specs.Private.{Entered}
 use Rattle.monitor.proofs.Digits.{or-is-set, sub-is-clear}
-use Rattle.monitor.proofs.Loops.{all-replicate}
 use Rattle.monitor.proofs.Reading.{declared, entered}
 use Rattle.monitor.proofs.Order.{accepted-has-passed}
 use Rattle.monitor.proofs.Formed.{ConfigurationFormed, InstanceFormed, Formed, formed, is-formed, words-few, one-each, opens-clear, opens-read, opened-rows-ok}

@@ -18,7 +18,7 @@ use Rattle.policy.specs.Codes.{WORD-COUNT, WORD, TERM, UNIT, COUNTS}
 use Rattle.policy.specs.Words.{wordOk, decode}
 use Rattle.policy.specs.Reading.{countOk, lengthOk, isTerm, isFormed, answer, readPolicy}
 use Rattle.policy.specs.Refusals.{Refusals, _gives_, code}
-use Rattle.policy.specs.Accepted.{WordsOf, DecodeIsEncode, InLayout, ThreeIsNoTerm, FourIsNotFormed, IsPolicy, PolicyIsWords, ReadIsEncode, TermIsOne, DecodeIsTerm}
+use Rattle.policy.specs.Accepted.{WordsOf, DecodeIsEncode, InLayout, ThreeIsNoTerm, FourIsNotFormed, IsPolicy, PolicyInLayout, PolicyIsWords, ReadIsEncode, TermIsOne, DecodeIsTerm}
 use Rattle.policy.specs.declared.PolicyRead.{PolicyRead}
 use Rattle.policy.specs.declared.PolicyRead.the-variants.{Accepted, Refused}
 use Rattle.policy.proofs.Grammar.{begins-whole, decode-whole}
@@ -137,16 +137,17 @@ module _ (users roles : ℕ) (ws : List ℕ) (φ : Term) (p : IsPolicy users rol
   policy-length : length ws ≡ size φ
   policy-length = ap length (p .written) ∙ encode-length φ
 
-  policy-layout : InLayout users roles ws
-  policy-layout =
-      let c = counts-most users roles (p .counts) in
-      let ok = encode-ok users roles (c .0) (c .1) φ [] (p .isDeclared) refl in
-      record {
-        counts = p .counts;
-        long = and-join (leb 1 (length ws)) (leb (length ws) 31)
-            (le-leb 1 (length ws) (omega (arith, policy-length, size-pos φ))) (le-leb (length ws) 31 (omega (arith, policy-length, p .short)));
-        layout = ap (all (wordOk users roles)) (p .written ∙ sym (append-nil (encode φ))) ∙ ok;
-      }
+pub policy-in-layout : PolicyInLayout
+policy-in-layout users roles ws φ p =
+    let c = counts-most users roles (p .counts) in
+    let n = policy-length users roles ws φ p in
+    let ok = encode-ok users roles (c .0) (c .1) φ [] (p .isDeclared) refl in
+    record {
+      counts = p .counts;
+      long = and-join (leb 1 (length ws)) (leb (length ws) 31)
+          (le-leb 1 (length ws) (omega (arith, n, size-pos φ))) (le-leb (length ws) 31 (omega (arith, n, p .short)));
+      layout = ap (all (wordOk users roles)) (p .written ∙ sym (append-nil (encode φ))) ∙ ok;
+    }
 
 pub decode-is-term : DecodeIsTerm
 decode-is-term users roles ws φ p = decodes ws φ (policy-is-words users roles ws φ p)
@@ -176,5 +177,5 @@ read-is-encode users roles ws n m = (to, back)
     back h =
         let φ = h .0 in
         let p = h .1 in
-        is-formed users roles ws (policy-layout users roles ws φ p) φ (decode-is-term users roles ws φ p) (p .formed)
+        is-formed users roles ws (policy-in-layout users roles ws φ p) φ (decode-is-term users roles ws φ p) (p .formed)
         ∙ ap₂ Accepted (policy-length users roles ws φ p ∙ sym (h .2)) (sym (h .3))

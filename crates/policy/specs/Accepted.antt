@@ -70,7 +70,10 @@ ReadIsEncode =
     (users roles : ℕ) (ws : List ℕ) (n m : ℕ)
     → (readPolicy users roles ws ≡ Accepted n m) ↔ ((φ : Term) × IsPolicy users roles ws φ × (n ≡ size φ) × (m ≡ marks unit φ))
 
--- .. then the words are those of the term ..
+-- .. then none of 5, 1 and 2 applies, the words are those of the term ..
+abbrev pub PolicyInLayout : Type 0
+PolicyInLayout = (users roles : ℕ) (ws : List ℕ) (φ : Term) → IsPolicy users roles ws φ → InLayout users roles ws
+
 abbrev pub PolicyIsWords : Type 0
 PolicyIsWords = (users roles : ℕ) (ws : List ℕ) (φ : Term) → IsPolicy users roles ws φ → WordsOf φ ws
 

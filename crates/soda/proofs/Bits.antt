@@ -5,6 +5,7 @@ use mathlib.Core.List.{[], _∷_}
 use Prim.Native.Nat.{ℕ, zero, suc, _+_, _-_, _*_, _/_, _%_, _^_, _≤_, _<_}
 use native.Mathlib.Omega.{arith}
 use native.Mathlib.Nat.{one-mul, pow-suc, zero-div}
+use lib.Bits.{bitAnd, and-mask}
 use lib.Dec.{eqb, eqb·zero-suc, eqb·suc-zero, eqb·suc-suc}
 use lib.ListN.{length}
 use lib.Pow.{shl-exact, shr-shr}
@@ -28,6 +29,10 @@ even n e = let k = digit-false (n / 1 % 2) (omega arith) e in omega arith
 
 pub odd : (n : ℕ) → bit 0 n ≡ true → n % 2 ≡ 1
 odd n e = let k = so-eq (n / 1 % 2) 1 e in omega arith
+
+-- as code tests it
+pub low-bit : (n : ℕ) → eqb (bitAnd n 1) 1 ≡ bit 0 n
+low-bit n = let e : n % 2 ≡ n / 1 % 2 = omega arith in ap (λ (k : ℕ). eqb k 1) (and-mask n 1 ∙ e)
 
 bit-0 : (m n : ℕ) → m % 2 ≡ n % 2 → bit 0 m ≡ bit 0 n
 bit-0 m n e = let k : m / 1 % 2 ≡ n / 1 % 2 = omega arith in ap (λ x. eqb x 1) k

@@ -3,6 +3,8 @@ use mathlib.Core.Path.{_≡_, refl, sym, _∙_, ap}
 use mathlib.Core.Logic.{_⊎_, inl, inr}
 use mathlib.Core.Bool.{Bool, false, So, _&&_, _||_, or-assoc, or-false}
 use mathlib.Core.List.{List, [], _∷_, _++_, map}
+use Prim.Native.Nat.{ℕ, zero, suc}
+use lib.ListN.{replicate}
 use Rattle.soda.specs.Lists.{any, all, toLeft, toRight, splits, Split, nil, left, right}
 use Rattle.soda.proofs.Bools.{and-split, and-join, or-split, or-left, or-right}
 
@@ -18,6 +20,10 @@ module _ {A B : Type 0} (g : A → B) (f : B → Bool) where
   pub all-map : (l : List A) → all f (map g l) ≡ all (λ x. f (g x)) l
   all-map [] = refl
   all-map (x ∷ l) = ap (λ (b : Bool). f (g x) && b) (all-map l)
+
+pub all-replicate : {A : Type 0} (f : A → Bool) (n : ℕ) (a : A) → So (f a) → So (all f (replicate n a))
+all-replicate f zero a h = refl
+all-replicate f (suc n) a h = and-join (f a) (all f (replicate n a)) h (all-replicate f n a h)
 
 module _ {A : Type 0} where
   any-splits : (f : List A × List A → Bool) (x : A) (s : List A)

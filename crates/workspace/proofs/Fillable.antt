@@ -14,9 +14,11 @@ use Rattle.soda.proofs.Bools.{and-join}
 use Rattle.soda.proofs.Terms.{size-pos}
 use Rattle.policy.specs.Words.{decode, termOf}
 use Rattle.policy.specs.Reading.{lengthOk}
+use Rattle.policy.specs.Accepted.{IsPolicy}
 use Rattle.policy.specs.Shapes.{rightSides, blankShape, termShape, shapeIn, shapeOf}
 use Rattle.policy.specs.declared.Shape.{Shape}
-use Rattle.workspace.specs.Workspace.{isFillable, filled, fillOf}
+use Rattle.policy.proofs.Accepted.{policy-in-layout, decode-is-term}
+use Rattle.workspace.specs.Workspace.{isFillable, filled, fillOf, PolicyIsFilled}
 use Rattle.workspace.specs.Private.{Shaped}
 use Rattle.soda.specs.declared.Action.{Action}
 use Rattle.workspace.proofs.Subterms.{rights-length}
@@ -109,3 +111,22 @@ module _ (words : List ℕ) (actions : List Action) (n : ℕ) (room : List ℕ) 
           (ap (λ o. isFillable o (take n actions) room) (r .is)
           ∙ and-join (wellFormed (r .term)) (users-ok (take n actions) && leb 8192 (length room)) (r .formed)
           (and-join (users-ok (take n actions)) (leb 8192 (length room)) b (le-leb 8192 (length room) c))))
+
+-- the words of an accepted policy
+readable-policy : (users roles : ℕ) (words : List ℕ) (φ : Term) → IsPolicy users roles words φ → Readable words
+unfolding shapeOf
+readable-policy users roles words φ p =
+    let long = policy-in-layout users roles words φ p .long in
+    let is = decode-is-term users roles words φ p in
+    record {
+      term = φ;
+      long = long;
+      is = is;
+      formed = p .formed;
+      shape = ap₂ (λ b o. shapeIn (cond b o none)) long is ∙ ap (λ c. cond c (termShape φ) blankShape) (p .formed);
+    }
+
+pub policy-is-filled : PolicyIsFilled
+unfolding readable-policy
+policy-is-filled users roles words φ actions n room p few known long =
+    sym (is-filled words actions n room (readable-policy users roles words φ p) few known long)

@@ -10,4 +10,5 @@ pub mod Exchange
 pub mod Table
 pub mod Entries
 pub mod Columns
+pub mod Verdicts
 pub mod Fillable

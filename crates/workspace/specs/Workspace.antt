@@ -1,6 +1,6 @@
 -- The workspace (document 01: work room): for each set of actions, which terms of the policy it satisfies and which are possible.
 use mathlib.Core.Path.{_≡_}
-use mathlib.Core.Bool.{Bool, true, false, _&&_, cond}
+use mathlib.Core.Bool.{Bool, true, false, So, _&&_, cond}
 use mathlib.Core.List.{List, [], _∷_, _++_, map}
 use mathlib.Core.Option.{Option, some, none}
 use Prim.Native.Nat.{ℕ, zero, suc, _+_, _-_, _/_, _^_, _≤_, _<_}
@@ -9,9 +9,10 @@ use lib.ListN.{length, getD, take, drop, replicate}
 use Rattle.soda.specs.Bits.{bit, number}
 use Rattle.soda.specs.Lists.{all}
 use Rattle.soda.specs.Terms.{Term, wellFormed, size, termAt}
-use Rattle.soda.specs.Tables.{bitTable}
+use Rattle.soda.specs.Tables.{bitTable, satisfied, possible}
 use Rattle.policy.specs.Words.{decode, termOf}
 use Rattle.policy.specs.Reading.{lengthOk}
+use Rattle.policy.specs.Accepted.{IsPolicy}
 use Rattle.soda.specs.declared.Action.{Action}
 
 -- the n numbers from i on
@@ -55,6 +56,13 @@ fillOf words actions n workspace =
     cond (lengthOk (length words) && (leb n 12 && isFillable (decode words) (take n actions) workspace)) (filled (termOf (decode words)) (take n actions) workspace) workspace
 
 -- ── what is proved of it ──
+-- It fills for an accepted policy, at most twelve actions by users below 16, and a workspace that is long enough.
+abbrev pub PolicyIsFilled : Type 0
+PolicyIsFilled =
+    (users roles : ℕ) (words : List ℕ) (φ : Term) (actions : List Action) (n : ℕ) (workspace : List ℕ)
+    → IsPolicy users roles words φ → n ≤ 12 → So (all (λ a. ltb (a .user) 16) (take n actions)) → 8192 ≤ length workspace
+    → fillOf words actions n workspace ≡ filled φ (take n actions) workspace
+
 -- Of at most twelve actions, word s of a filled workspace is the row of the set with mask s, and word 4,096 + s its row for possible ..
 abbrev pub WordIsRow : Type 0
 WordIsRow =
@@ -64,3 +72,10 @@ WordIsRow =
 -- .. and bit i of a row says what is judged of the term at word i.
 abbrev pub BitIsJudged : Type 0
 BitIsJudged = (e : Bool) (φ : Term) (l : List Action) (s i : ℕ) → i < size φ → bit i (rowOf e φ l s) ≡ judged e φ (select s l) i
+
+-- So bit 0 of the word at the mask of all actions says whether they satisfy the policy, and 4,096 words on whether they are possible.
+abbrev pub WholeIsRead : Type 0
+WholeIsRead =
+    (φ : Term) (l : List Action) (workspace : List ℕ) → length l ≤ 12
+    → (bit 0 (getD (filled φ l workspace) (2 ^ length l - 1) 0) ≡ satisfied φ 0 l)
+    × (bit 0 (getD (filled φ l workspace) (4096 + (2 ^ length l - 1)) 0) ≡ possible φ 0 l)

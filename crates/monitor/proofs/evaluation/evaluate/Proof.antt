@@ -1,17 +1,18 @@
 -- The workspace is filled for the taken actions; bit 0 of the words at the mask of all of them is read.
-use mathlib.Core.Path.{_≡_, sym, _∙_}
-use Prim.Native.Nat.{ℕ, _-_, _*_, _%_, _^_, _≤_}
+use mathlib.Core.Path.{_≡_, sym, ap₂, _∙_}
+use Prim.Native.Nat.{ℕ, _+_, _-_, _*_, _%_, _^_, _≤_}
 use native.Mathlib.Omega.{arith}
 use borrow.Author.Needs.{needs}
 use mathlib.Core.List.{List}
-use lib.ListN.{length}
+use lib.ListN.{length, getD}
 use lib.Pow.{pow-pos, pow-mono}
 use lib.Seq.{length-take-le}
 use Rattle.workspace.specs.Workspace.{filled}
+use Rattle.workspace.proofs.Verdicts.{whole-is-read}
 use Rattle.monitor.specs.Instances.{term, takenOf}
-use Rattle.soda.proofs.Bits.{one-shl}
+use Rattle.soda.specs.Bits.{bit}
+use Rattle.soda.proofs.Bits.{low-bit, one-shl}
 use Rattle.soda.proofs.Lists.{length-mapped}
-use Rattle.monitor.proofs.Verdicts.{satisfied-read, possible-read}
 use Rattle.monitor.proofs.Fillable.{taken-few, room-long, fill-is}
 use Rattle.monitor.proofs.evaluation.evaluate.Statement.{statement}
 use Rattle.monitor.proofs.evaluation.evaluate.Tie as tie
@@ -122,9 +123,10 @@ returns c =
     let mask : ℕ = 1 * 2 ^ (i .taken) % 2 ^ 64 - 1 in
     let ones : mask ≡ 2 ^ length (takenOf i) - 1 = rw (count s) (omega (arith, shifted s)) in
     let few : length (takenOf i) ≤ 12 = omega (arith, count s, few s) in
+    let read = whole-is-read (term i) (takenOf i) before few in
     record {
-      is-satisfied = satisfied-read (term i) (takenOf i) few before after is mask ones;
-      is-possible = possible-read (term i) (takenOf i) few before after is mask ones;
+      is-satisfied = low-bit (getD after mask 0) ∙ ap₂ (λ (w : List ℕ) (k : ℕ). bit 0 (getD w k 0)) is ones ∙ read .0;
+      is-possible = low-bit (getD after (4096 + mask) 0) ∙ ap₂ (λ (w : List ℕ) (k : ℕ). bit 0 (getD w (4096 + k) 0)) is ones ∙ read .1;
       workspace = is;
     }
 
