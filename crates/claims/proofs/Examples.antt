@@ -8,8 +8,8 @@ use Rattle.monitor.specs.Configurations.{configurationOk}
 use Rattle.monitor.specs.Instances.{instanceOk}
 use Rattle.monitor.specs.Monitors.{openRefusals, fresh, opened, admission}
 use Rattle.monitor.specs.Events.{readEvent, eventRefusals}
-use Rattle.monitor.specs.MultisetTest.{testRefusals, testOf}
 use Rattle.monitor.specs.Runs.{run}
+use Rattle.multiset.specs.MultisetTest.{testRefusals, testOf}
 use Rattle.claims.specs.Examples.{Settled}
 
 pub settled : Settled

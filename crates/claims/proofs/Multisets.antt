@@ -21,7 +21,7 @@ use Rattle.policy.specs.Refusals.{Refusals, _gives_}
 use Rattle.policy.proofs.Refusals.{clear, clear-code, clear-front, clear-behind, code-behind}
 use Rattle.monitor.specs.Configurations.{isZero}
 use Rattle.monitor.specs.Monitors.{Opening, policy, openRefusals, openCode}
-use Rattle.monitor.specs.MultisetTest.{total, listed, notedBy, testRefusals, testCode, letterY, letterN, testOf}
+use Rattle.multiset.specs.MultisetTest.{total, listed, notedBy, testRefusals, testCode, letterY, letterN, testOf}
 use Rattle.claims.specs.Accuracy.{Testable, Counted, TestIsMultiset}
 use Rattle.claims.proofs.Follows.{formed-policy, noted-is-note}
 

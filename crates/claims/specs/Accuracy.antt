@@ -20,8 +20,8 @@ use Rattle.monitor.specs.declared.Event.the-variants.{Acts, Grants, Revokes, Cl
 use Rattle.monitor.specs.Monitors.{Opening, policy, openCode, opened}
 use Rattle.monitor.specs.Events.{readEvent, isMalformed, eventCode}
 use Rattle.monitor.specs.Statuses.{letterD, letterC, letterO, statusLetter}
-use Rattle.monitor.specs.MultisetTest.{total, letterY, letterN, testOf}
 use Rattle.monitor.specs.Runs.{Lengths, Step, run, final, isAction}
+use Rattle.multiset.specs.MultisetTest.{total, letterY, letterN, testOf}
 use Rattle.claims.specs.Runs.{symbolOf, accepted}
 
 -- An opening answered 0, then any list of words as events, with workspaces of any lengths: an event whose workspace is too short is

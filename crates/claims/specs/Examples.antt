@@ -10,8 +10,8 @@ use Rattle.policy.specs.Reading.{readPolicy, numberOf}
 use Rattle.normal.specs.NormalForms.{normalOut}
 use Rattle.monitor.specs.Monitors.{Opening, given, openCode, opened}
 use Rattle.monitor.specs.Statuses.{letterD, letterC, letterO}
-use Rattle.monitor.specs.MultisetTest.{letterY, letterN, testOf}
 use Rattle.monitor.specs.Runs.{run}
+use Rattle.multiset.specs.MultisetTest.{letterY, letterN, testOf}
 use Rattle.claims.specs.Runs.{Line, lines}
 
 -- A list of events: what the opening is given, the event words, and what is expected after each. A multiset test: what it is given, how

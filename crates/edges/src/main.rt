@@ -1,7 +1,7 @@
 // The edges that document 01 names, run through the calls: each line is what was asked and the number that it was answered.
 use monitor::Monitor;
 use monitor::Status;
-use monitor::Verdict;
+use multiset::Verdict;
 
 // Fifteen boths and sixteen everyones: the longest policy, and one word more.
 const LONGEST: [u32; 31] = [
@@ -163,7 +163,7 @@ fn workspaces() {
     say_status(b"8191 words, status: ", opened.status(&mut short));
     say_verdict(
         b"8191 words, multiset: ",
-        monitor::satisfies(1, 1, &plus, &rows, counts, &mut short),
+        multiset::satisfies(1, 1, &plus, &rows, counts, &mut short),
     );
     let mut workspace = [0u32; 8192];
     say(
@@ -173,7 +173,7 @@ fn workspaces() {
     say_status(b"8192 words, status: ", opened.status(&mut workspace));
     say_verdict(
         b"8192 words, multiset: ",
-        monitor::satisfies(1, 1, &plus, &rows, counts, &mut workspace),
+        multiset::satisfies(1, 1, &plus, &rows, counts, &mut workspace),
     );
 }
 

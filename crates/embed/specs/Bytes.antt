@@ -4,7 +4,7 @@ use mathlib.Core.Bool.{cond}
 use Prim.Native.Nat.{ℕ}
 use lib.Dec.{eqb}
 use Rattle.monitor.specs.Statuses.{StatusOutcome}
-use Rattle.monitor.specs.MultisetTest.{TestOutcome}
+use Rattle.multiset.specs.MultisetTest.{TestOutcome}
 
 abbrev pub byteOf : ℕ → ℕ → ℕ
 byteOf code letter = cond (eqb code 0) letter code

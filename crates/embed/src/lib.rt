@@ -6,12 +6,12 @@ ghost use Rattle.normal.specs.NormalForms.{normalCode, normalOut};
 ghost use Rattle.monitor.specs.Monitors.{given, opening};
 ghost use Rattle.monitor.specs.Events.{outcome};
 ghost use Rattle.monitor.specs.Statuses.{statusOf, statusNumber, letter};
-ghost use Rattle.monitor.specs.MultisetTest.{testOf, verdictNumber, verdictLetter, Numbered};
+ghost use Rattle.multiset.specs.MultisetTest.{testOf, verdictNumber, verdictLetter, Numbered};
 ghost use Rattle.embed.specs.Bytes.{byteOf, statusByte, verdictByte};
 ghost use Rattle.embed.specs.Versions.{version, layout};
 use monitor::Monitor;
 use monitor::Status;
-use monitor::Verdict;
+use multiset::Verdict;
 
 // The version, 0.1.0: major, minor and patch number, a byte each.
 const VERSION: u32 = 0x000100;
@@ -98,7 +98,7 @@ pub extern "C" fn oskhrein_satisfies(
 ) -> u8
     ensures { λ r. ⌜ (r ≡ verdictByte (testOf (given users roles (now (words .entry)) (now (rows .entry))) (now (counts .entry)) (length (now (workspace .entry))))) × Numbered (given users roles (now (words .entry)) (now (rows .entry))) (now (counts .entry)) (now (workspace .entry)) (now (workspace .exit)) ⌝ }
 {
-    verdict_byte(monitor::satisfies(users, roles, words, rows, *counts, workspace))
+    verdict_byte(multiset::satisfies(users, roles, words, rows, *counts, workspace))
 }
 
 // The normal form of a policy, at the start of an output that the caller keeps.

@@ -37,7 +37,7 @@ fillable-term (some φ) l room h f a n =
     and-join (wellFormed φ) (all known l && leb 8192 (length room)) f (and-join (all known l) (leb 8192 (length room)) a (le-leb 8192 (length room) n))
 
 -- by its parts
-pub fillable : (i : Instance) (room : List ℕ) → i .words ≤ 31 → So (lengthOk (length (policyOf i))) → So (isTerm (decode (policyOf i)))
+fillable : (i : Instance) (room : List ℕ) → i .words ≤ 31 → So (lengthOk (length (policyOf i))) → So (isTerm (decode (policyOf i)))
     → So (isFormed (decode (policyOf i))) → i .taken ≤ 12 → So (all known (takenOf i)) → 8192 ≤ length room → Fillable i room
 fillable i room w p t f k a n = record {
   words-most = w;

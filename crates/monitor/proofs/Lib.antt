@@ -13,5 +13,3 @@ pub mod Order
 pub mod Preserved
 -- The workspace: when it is filled.
 pub mod Fillable
-pub mod Adding
-pub mod Counted

@@ -3,7 +3,6 @@ pub mod Instances
 pub mod Monitors
 pub mod Events
 pub mod Statuses
-pub mod MultisetTest
 pub mod Runs
 -- What is proved of them.
 pub mod Laws

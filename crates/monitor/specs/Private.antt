@@ -1,12 +1,11 @@
 -- What the monitor's private functions ask for and give.
 use mathlib.Core.Path.{_≡_}
 use mathlib.Core.Bool.{Bool, So, _&&_, cond}
-use mathlib.Core.List.{List, [], _∷_}
+use mathlib.Core.List.{List, []}
 use Prim.Native.Nat.{ℕ, _≤_, _<_}
 use lib.Dec.{leb, eqb}
 use lib.ListN.{length}
 use Rattle.soda.specs.Tables.{satisfied, possible}
-use Rattle.soda.specs.declared.Action.{Action}
 use Rattle.policy.specs.Refusals.{code}
 use Rattle.policy.specs.Words.{decode}
 use Rattle.policy.specs.Reading.{lengthOk, metOf}
@@ -115,8 +114,3 @@ monitorOutcome m e before = record {
   monitor = cond (eqb (code (ownRefusals (m .configuration) (m .instance) e)) 0) (applied m e) m;
   workspace = workspaceAfter (m .configuration) (m .instance) e (code (ownRefusals (m .configuration) (m .instance) e)) before;
 }
-
--- an instance with more actions, one after the other
-abbrev pub adding : Instance → List Action → Instance
-adding i [] = i
-adding i (a ∷ l) = adding (withAction i a) l

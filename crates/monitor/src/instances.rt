@@ -1,9 +1,9 @@
-// The instance: as it starts under a policy, what is noted of an action, an action taken, a close, and its part of number 15.
+// The instance: as it starts under a policy, an action taken, a close, and its part of number 15.
 ghost use mathlib.Core.Path.{_≡_};
 ghost use Prim.Native.Nat.{_≤_, _<_};
 ghost use lib.ListN.{length, take, drop};
 ghost use Rattle.soda.specs.Lists.{all};
-ghost use Rattle.monitor.specs.Instances.{isClosed, instanceOf, notedFor, withAction, asClosed, isIdle, actionOk, isTidy, instanceOk};
+ghost use Rattle.monitor.specs.Instances.{isClosed, instanceOf, withAction, asClosed, isIdle, actionOk, isTidy, instanceOk};
 ghost use Rattle.monitor.specs.Private.{Checked};
 use super::Configuration;
 use super::Instance;
@@ -87,17 +87,6 @@ impl Instance {
         ensures { λ r. ⌜ r ≡ isClosed self ⌝ }
     {
         self.closed != 0
-    }
-
-    // What is noted of an action by this user: the unit terms that the user meets by the roles held in the configuration.
-    pub(crate) fn noted(self, configuration: Configuration, user: u8) -> Action
-        requires { ⌜ self .words ≤ 31 ⌝ }
-        ensures { λ r. ⌜ r ≡ notedFor configuration self user ⌝ }
-    {
-        let policy = self.policy;
-        let words = self.words as usize;
-        let held = configuration.held(user);
-        Action::new(user, policy::met(&policy[..words], user, held))
     }
 
     // The next place holds the action, and there is one more.

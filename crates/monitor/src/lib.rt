@@ -1,14 +1,12 @@
-// The monitor of a quote by value: opening one, one event, the status, and the multiset test.
+// The monitor of a quote by value: opening one, one event, and the status.
 mod configurations;
 mod evaluation;
 mod events;
 mod instances;
 mod lists;
 mod monitors;
-mod multisets;
 mod steps;
 
-pub use multisets::satisfies;
 use soda::Action;
 
 // A configuration (document 004, Definition 1): the roles that each user holds, bit r for role r, and the counts. Rows past the
@@ -60,12 +58,5 @@ pub enum Status {
     Closed,
     Complete,
     Open,
-    Refused(u8),
-}
-
-// What the multiset test answers (document 01: the bag test).
-pub enum Verdict {
-    Yes,
-    No,
     Refused(u8),
 }

@@ -13,11 +13,11 @@ use Rattle.soda.specs.declared.Action.{Action}
 use Rattle.policy.specs.Codes.{MALFORMED, FULL, WORKSPACE}
 use Rattle.policy.specs.Refusals.{_gives_, code}
 use Rattle.workspace.specs.Workspace.{filled}
-use Rattle.monitor.specs.declared.Verdict.{Verdict}
-use Rattle.monitor.specs.declared.Verdict.the-variants.{Yes, No, Refused}
 use Rattle.monitor.specs.Configurations.{isZero}
 use Rattle.monitor.specs.Instances.{noted}
 use Rattle.monitor.specs.Monitors.{Opening, policy, openRefusals}
+use Rattle.multiset.specs.declared.Verdict.{Verdict}
+use Rattle.multiset.specs.declared.Verdict.the-variants.{Yes, No, Refused}
 
 -- 01's number for each case, and a letter for the answer, `y` or `n`; a refusal has none
 abbrev pub letterY : ℕ

@@ -1,7 +1,7 @@
--- The refusals in order; behind them the opened instance with the multiset's actions is evaluated.
+-- The refusals in order; behind them the multiset's actions are evaluated.
 use mathlib.Core.Path.{_≡_, sym, ap, _∙_}
 use mathlib.Core.Bool.{true, false}
-use mathlib.Core.List.{map}
+use mathlib.Core.List.{List, map}
 use Prim.Native.Nat.{_≤_}
 use native.Mathlib.Omega.{arith}
 use borrow.Author.Needs.{needs}
@@ -10,18 +10,17 @@ use lib.Dec.{ltb}
 use lib.ListN.{length, drop}
 use Rattle.soda.specs.Lists.{all}
 use Rattle.soda.specs.Tables.{satisfied}
+use Rattle.soda.specs.declared.Action.{Action}
 use Rattle.policy.specs.Codes.{MALFORMED, FULL, WORKSPACE}
 use Rattle.workspace.specs.Workspace.{filled}
-use Rattle.monitor.specs.declared.Answer.{Answer}
 use Rattle.monitor.specs.Configurations.{isZero}
-use Rattle.monitor.specs.Monitors.{Opening, given, policy, openCode, fresh}
-use Rattle.monitor.specs.MultisetTest.{total, listed, notedBy, testRefusals, testCode}
-use Rattle.monitor.proofs.Opening.{opened-is-fresh}
-use Rattle.monitor.proofs.Formed.{words-few, opens-read}
-use Rattle.monitor.proofs.Adding.{total-zero}
-use Rattle.monitor.proofs.Counted.{counted, of-counted, fillable-counted, code-opening, code-own, refused-test, yes-test, no-test}
-use Rattle.monitor.proofs.multisets.satisfies.Statement.{statement}
-use Rattle.monitor.proofs.multisets.satisfies.Tie as tie
+use Rattle.monitor.specs.Monitors.{Opening, given, policy, openCode}
+use Rattle.monitor.specs.declared.Answer.{Answer}
+use Rattle.multiset.specs.MultisetTest.{total, listed, notedBy, testRefusals, testCode}
+use Rattle.multiset.proofs.Listed.{total-zero}
+use Rattle.multiset.proofs.Answers.{counted, fillable, code-opening, code-own, refused-test, yes-test, no-test}
+use Rattle.multiset.proofs.satisfies.Statement.{statement}
+use Rattle.multiset.proofs.satisfies.Tie as tie
 
 counts-length : (s : tie.Start) → length (s .args .counts) ≡ 16
 counts-length s = search needs
@@ -69,9 +68,6 @@ module _ (e : tie.Else2) where
   accepted : openCode (asked begun) ≡ 0
   accepted = sym (opened-code (e .before)) ∙ e .if2 .left
 
-  opened-monitor : e .before .«open» .result .monitor ≡ fresh (asked begun)
-  opened-monitor = ap (λ (x : Answer). x .monitor) (e .before .«open» .ensures) ∙ opened-is-fresh (asked begun) accepted
-
 total-from-requires : tie.Need-total-from-requires
 total-from-requires c κs = search needs
 
@@ -90,11 +86,14 @@ module _ (e : tie.Else3) where
   abbrev past-opening : tie.Else2
   past-opening = e .before .before
 
+  none-more : let s = begun past-opening in total (drop (s .args .users) (s .args .counts)) ≡ 0
+  none-more = sym (e .before .total-from .ensures) ∙ e .if3 .left
+
   declared : let s = begun past-opening in all isZero (drop (s .args .users) (s .args .counts)) ≡ true
   declared =
       let s = begun past-opening in
       let rest = drop (s .args .users) (s .args .counts) in
-      total-zero rest ∙ eq-eqb (total rest) 0 (sym (e .before .total-from .ensures) ∙ e .if3 .left)
+      total-zero rest ∙ eq-eqb (total rest) 0 none-more
 
 total-from-requires-2 : tie.Need-total-from-requires-2
 total-from-requires-2 c κs = search needs
@@ -128,53 +127,37 @@ module _ (e : tie.Else4) where
       code-own (asked from) (from .args .counts) (from .args .workspace .now) (long (opened-there .before .before)) (accepted opened-there)
       ∙ rw (declared names-declared, le-ltb 12 (total (from .args .counts)) few)
 
--- the opened monitor is taken apart
-abbrev clear : tie.After-instance → tie.Else4
-clear c = c .before .before .before
-
-with-multiset-requires : tie.Need-with-multiset-requires
-unfolding fresh
-with-multiset-requires c κs =
-    let e = clear c in
-    let o = opened-there e in
-    rw (opened-monitor o) (words-few (from e .args .words .now) (opens-read (asked (from e)) (accepted o)), omega (arith, few e))
-
--- the instance with the multiset's actions
-module _ (c : tie.After-with-multiset) where
-  abbrev passed-all : tie.Else4
-  passed-all = clear (c .before)
-
-  abbrev given-there : tie.Start
-  given-there = from passed-all
-
-  is-counted : c .with-multiset .result ≡ counted (asked given-there) (given-there .args .counts)
-  unfolding fresh
-  is-counted = rw (opened-monitor (opened-there passed-all)) at (c .with-multiset .ensures)
+actions-of-requires : tie.Need-actions-of-requires
+actions-of-requires c κs =
+    let s = from c in
+    counted (asked s) (s .args .counts) (accepted (opened-there c)) (few c) (none-more (names-declared c))
 
 evaluate-requires : tie.Need-evaluate-requires
 evaluate-requires c κs =
-    let m = c .before in
-    let o = opened-there (passed-all m) in
-    let s = given-there m in
-    rw (is-counted m)
-    (fillable-counted (asked s) (s .args .counts) (few (passed-all m)) (s .args .workspace .now) (opens-read (asked s) (accepted o)) (counts-length s) (o .before .before .if1 .left))
+    let a = c .before in
+    let e = a .before in
+    let s = from e in
+    fillable (asked s) (s .args .counts) (accepted (opened-there e)) (few e) (a .actions-of .result) (a .actions-of .ensures)
+    (s .args .workspace .now) (counts-length s) (opened-there e .before .before .if1 .left)
 
 -- what the evaluation says of the multiset's actions
 module _ (c : tie.After-evaluate) where
-  abbrev multiset-there : tie.After-with-multiset
-  multiset-there = c .before .before
+  abbrev listed-there : tie.After-actions-of
+  listed-there = c .before .before
 
   abbrev at-start : tie.Start
-  at-start = given-there multiset-there
+  at-start = from (listed-there .before)
 
-  said : satisfied (policy (asked at-start)) 0 (map (notedBy (asked at-start)) (listed 0 (at-start .args .counts))) ≡ c .evaluate .result .satisfied
-  said = sym (c .evaluate .ensures .is-satisfied
-      ∙ of-counted (asked at-start) (at-start .args .counts) (few (passed-all multiset-there)) (λ φ l. satisfied φ 0 l) (multiset-there .with-multiset .result) (is-counted multiset-there))
+  abbrev actions : List Action
+  actions = map (notedBy (asked at-start)) (listed 0 (at-start .args .counts))
 
-  filled-for : c .evaluate .last .1 .0 ≡ filled (policy (asked at-start)) (map (notedBy (asked at-start)) (listed 0 (at-start .args .counts))) (at-start .args .workspace .now)
+  said : satisfied (policy (asked at-start)) 0 actions ≡ c .evaluate .result
+  said = sym (c .evaluate .ensures .is-satisfied ∙ ap (λ (l : List Action). satisfied (policy (asked at-start)) 0 l) (listed-there .actions-of .ensures .are))
+
+  filled-for : c .evaluate .last .1 .1 .0 ≡ filled (policy (asked at-start)) actions (at-start .args .workspace .now)
   filled-for =
       c .evaluate .ensures .workspace
-      ∙ of-counted (asked at-start) (at-start .args .counts) (few (passed-all multiset-there)) (λ φ l. filled φ l (at-start .args .workspace .now)) (multiset-there .with-multiset .result) (is-counted multiset-there)
+      ∙ ap (λ (l : List Action). filled (policy (asked at-start)) l (at-start .args .workspace .now)) (listed-there .actions-of .ensures .are)
 
 same-length : tie.Need-same-length
 same-length c = search needs
@@ -183,7 +166,7 @@ returns-5 : tie.Need-returns-5
 returns-5 c =
     let j = c .before .before .before in
     let s = at-start j in
-    yes-test (asked s) (s .args .counts) (s .args .workspace .now) (j .evaluate .last .1 .0) (no-refusal (passed-all (multiset-there j))) (filled-for j) (said j ∙ c .if5 .taken)
+    yes-test (asked s) (s .args .counts) (s .args .workspace .now) (j .evaluate .last .1 .1 .0) (no-refusal (listed-there j .before)) (filled-for j) (said j ∙ c .if5 .taken)
 
 same-length-2 : tie.Need-same-length-2
 same-length-2 c = search needs
@@ -192,7 +175,7 @@ returns-6 : tie.Need-returns-6
 returns-6 c =
     let j = c .before .before .before in
     let s = at-start j in
-    no-test (asked s) (s .args .counts) (s .args .workspace .now) (j .evaluate .last .1 .0) (no-refusal (passed-all (multiset-there j))) (filled-for j) (said j ∙ c .if5 .left)
+    no-test (asked s) (s .args .counts) (s .args .workspace .now) (j .evaluate .last .1 .1 .0) (no-refusal (listed-there j .before)) (filled-for j) (said j ∙ c .if5 .left)
 
 pub satisfies-spec : {M : Type 1} → statement M
 satisfies-spec =
@@ -205,7 +188,7 @@ satisfies-spec =
     returns-3
     total-from-requires-2
     returns-4
-    with-multiset-requires
+    actions-of-requires
     evaluate-requires
     same-length
     returns-5

@@ -8,9 +8,9 @@ use lib.ListN.{length, getD, drop, drop-of-length-le}
 use lib.Seq.{drop-cons}
 use mir.Syntax.{w8}
 use mir.Val.{Fits}
-use Rattle.monitor.specs.MultisetTest.{total}
-use Rattle.monitor.proofs.multisets.total_from.Statement.{statement}
-use Rattle.monitor.proofs.multisets.total_from.Tie as tie
+use Rattle.multiset.specs.MultisetTest.{total}
+use Rattle.multiset.proofs.total_from.Statement.{statement}
+use Rattle.multiset.proofs.total_from.Tie as tie
 
 abbrev Inv-loop : tie.InvT-loop
 Inv-loop from counts sum₀ i₀ sum i = (sum + total (drop i counts) ≡ total (drop from counts)) × (sum ≤ 255 * i)

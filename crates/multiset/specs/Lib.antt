@@ -1,0 +1,3 @@
+pub mod MultisetTest
+-- The contracts of private functions.
+pub mod Private
