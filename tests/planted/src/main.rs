@@ -161,7 +161,20 @@ fn to_rust(source: &str) -> String {
         code += &rest[..kept];
         rest = &rest[kept.max(skipped)..];
     }
-    with_attributes(&code) + &boundary::of(source)
+    with_attributes(&with_numbers(&code)) + &boundary::of(source)
+}
+
+/// The code with Rust's names for sums and differences that wrap: `num::wrapping_add_u8` of Rattle's
+/// library is `u8::wrapping_add`.
+fn with_numbers(code: &str) -> String {
+    let mut code = code.replace("use std::num;\n", "");
+    for name in ["add", "sub"] {
+        for kind in ["u8", "u16", "u32", "u64", "usize"] {
+            let call = format!("num::wrapping_{name}_{kind}(");
+            code = code.replace(&call, &format!("{kind}::wrapping_{name}("));
+        }
+    }
+    code
 }
 
 /// The code with its attributes for Rust.

@@ -20,6 +20,12 @@ fn more(n: u8) -> u8
 }
 
 #[test]
+fn numbers_wrap_by_rusts_names() {
+    let code = to_rust("use std::num;\nfn f() -> u32 {\n    num::wrapping_sub_u32(0, 1)\n}\n");
+    assert_eq!(code, "fn f() -> u32 {\n    u32::wrapping_sub(0, 1)\n}\n");
+}
+
+#[test]
 fn structs_and_enums_are_copied() {
     let code = to_rust("pub struct A {\n    pub b: u8,\n}\nenum E {\n    X,\n}\n");
     assert!(code.starts_with("#[derive(Clone, Copy)]\n#[repr(C)]\npub struct A {\n"));
