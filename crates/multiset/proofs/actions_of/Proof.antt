@@ -55,10 +55,17 @@ cast-new c = search needs
 new-requires : tie.Need-new-requires Inv-loop μ-loop
 new-requires c κs = search needs
 
+-- the start, from the loop's place, and the turn in which a user's actions are added
+abbrev begin : tie.At-loop Inv-loop μ-loop → tie.Start Inv-loop μ-loop
+begin c = c .before .before .before
+
+abbrev turn : tie.After-met Inv-loop μ-loop → tie.In-loop Inv-loop μ-loop
+turn c = c .before .before .before
+
 -- the counts from a user on: the user's own, then the others'
 module _ (l : tie.In-loop Inv-loop μ-loop) where
   abbrev start : tie.Start Inv-loop μ-loop
-  start = l .before .before .before .before
+  start = begin (l .before)
 
   abbrev user : ℕ
   user = l .before .loop .user
@@ -82,7 +89,7 @@ module _ (l : tie.In-loop Inv-loop μ-loop) where
 
 with-more-requires : tie.Need-with-more-requires Inv-loop μ-loop
 with-more-requires c κs =
-    let l = c .before .before .before .before in
+    let l = turn (c .before) in
     omega (arith, number-next l, start l .pre .few)
 
 add-user : tie.Need-add-user Inv-loop μ-loop
@@ -127,7 +134,7 @@ loop-again c =
 
 returns : tie.Need-returns Inv-loop μ-loop
 returns c =
-    let s = c .before .before .before .before in
+    let s = begin (c .before) in
     let counts = s .args .t3 in
     let at = c .before .loop in
     let g : ℕ → Action = note (s .args .words .now) (s .args .rows .now) in
