@@ -13,7 +13,7 @@ use Rattle.policy.specs.Refusals.{code}
 use Rattle.monitor.specs.declared.Monitor.{Monitor}
 use Rattle.monitor.specs.declared.Event.{Event}
 use Rattle.monitor.specs.declared.Event.the-variants.{Acts, Grants, Revokes, Closes, Malformed}
-use Rattle.monitor.specs.Instances.{isClosed}
+use Rattle.instance.specs.Instances.{isClosed}
 use Rattle.monitor.specs.Monitors.{Opening, policy, openCode, admission}
 use Rattle.monitor.specs.Events.{readEvent, eventIn, isMalformed, ownRefusals, eventRefusals, eventCode}
 use Rattle.monitor.specs.Statuses.{letterD, letterC, letterO, statusCode, statusLetter}

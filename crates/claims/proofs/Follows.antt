@@ -29,22 +29,23 @@ use Rattle.policy.specs.Reading.{lengthOk, metIn, metOf}
 use Rattle.policy.specs.Accepted.{IsPolicy}
 use Rattle.policy.proofs.Refusals.{clear}
 use Rattle.policy.proofs.Accepted.{decode-is-term}
-use Rattle.monitor.specs.declared.Configuration.{Configuration}
-use Rattle.monitor.specs.declared.Instance.{Instance}
+use Rattle.instance.specs.declared.Configuration.{Configuration}
+use Rattle.instance.specs.declared.Instance.{Instance}
 use Rattle.monitor.specs.declared.Monitor.{Monitor}
 use Rattle.monitor.specs.declared.Event.{Event}
 use Rattle.monitor.specs.declared.Event.the-variants.{Acts, Grants, Revokes, Closes, Malformed}
-use Rattle.monitor.specs.Configurations.{assignment, held}
-use Rattle.monitor.specs.Instances.{policyOf, takenOf, term, isClosed, noted as notedAs, notedFor, tried}
+use Rattle.instance.specs.Configurations.{assignment, held}
+use Rattle.instance.specs.Instances.{policyOf, takenOf, term, isClosed, noted as notedAs, notedFor}
 use Rattle.monitor.specs.Monitors.{Opening, policy, openCode, fresh, opened, wellFormed}
-use Rattle.monitor.specs.Events.{eventIn, ownRefusals, configured, advanced, applied, eventCode, eventMonitor, outcome}
+use Rattle.monitor.specs.Events.{eventIn, ownRefusals, configured, advanced, applied, eventCode, eventMonitor, outcome, tried}
 use Rattle.monitor.specs.Laws.{Declared, Passed}
 use Rattle.monitor.specs.Runs.{Lengths, from, stepOf, run, final}
 use Rattle.monitor.proofs.Opening.{opened-is-fresh}
-use Rattle.monitor.proofs.Formed.{one-each, opened-rows-ok, opened-is-policy, twelve-at-most}
+use Rattle.instance.proofs.Formed.{one-each}
+use Rattle.monitor.proofs.Formed.{opened-rows-ok, opened-is-policy, twelve-at-most}
 use Rattle.monitor.proofs.Reading.{declared}
 use Rattle.monitor.proofs.Order.{accepted-has-passed}
-use Rattle.monitor.proofs.Fillable.{taken-more}
+use Rattle.instance.proofs.Formed.{taken-more}
 use Rattle.monitor.proofs.Preserved.{opened-is-well-formed, accepted-stays-well-formed}
 use Rattle.claims.specs.Runs.{symbolOf, kept, accepted}
 use Rattle.claims.specs.Accuracy.{traceOf, hasClosed, businessEvents}

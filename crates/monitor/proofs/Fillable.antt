@@ -4,12 +4,10 @@ use mathlib.Core.Bool.{Bool, So, _&&_}
 use mathlib.Core.List.{List, [], _∷_}
 use mathlib.Core.Option.{Option, some, none}
 use Prim.Native.Nat.{ℕ, _≤_, _<_}
-use native.Mathlib.Numerals.{add-one}
 use native.Mathlib.Omega.{arith}
 use lib.Bits.{bitAnd}
 use lib.Dec.{leb, ltb, eqb}
 use lib.ListN.{length}
-use lib.Seq.{take-suc-set}
 use borrow.Author.Tests.{le-leb, leb-true}
 use Rattle.soda.specs.Lists.{all}
 use Rattle.soda.specs.Terms.{Term, wellFormed}
@@ -19,12 +17,11 @@ use Rattle.soda.proofs.Splits.{split-append, all-parts}
 use Rattle.policy.specs.Words.{decode}
 use Rattle.policy.specs.Reading.{lengthOk, isTerm, isFormed, unitsOf}
 use Rattle.workspace.specs.Workspace.{filled, isFillable, fillOf}
-use Rattle.monitor.specs.declared.Configuration.{Configuration}
-use Rattle.monitor.specs.declared.Instance.{Instance}
-use Rattle.monitor.specs.Instances.{policyOf, takenOf, term, withAction, actionOk}
-use Rattle.monitor.specs.Laws.{TakenMore}
+use Rattle.instance.specs.declared.Configuration.{Configuration}
+use Rattle.instance.specs.declared.Instance.{Instance}
+use Rattle.instance.specs.Instances.{policyOf, takenOf, term, withAction, actionOk}
 use Rattle.monitor.specs.Private.{Fillable}
-use Rattle.monitor.proofs.Formed.{ConfigurationFormed, InstanceFormed, formed-read, users-most}
+use Rattle.instance.proofs.Formed.{ConfigurationFormed, InstanceFormed, formed-read, users-most, taken-more}
 
 -- a user that the workspace has a bit for
 abbrev known : Action → Bool
@@ -54,10 +51,6 @@ all-known users units (a ∷ l) m h =
     let (p, q) = and-split (actionOk users units a) (all (actionOk users units) l) h in
     let u = and-split (ltb (a .user) users) (eqb (bitAnd (a .met) units) (a .met)) p .0 in
     and-join (known a) (all known l) (lt-so (a .user) 16 (omega (arith, so-lt (a .user) users u))) (all-known users units l m q)
-
--- one more action
-pub taken-more : TakenMore
-taken-more i a h = rw (add-one, take-suc-set (i .actions) (i .taken) a)
 
 module _ (c : Configuration) (i : Instance) (room : List ℕ) (k : ConfigurationFormed c) (f : InstanceFormed c i) (long : 8192 ≤ length room) where
   users-known : So (all known (takenOf i))

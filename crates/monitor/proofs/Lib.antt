@@ -1,7 +1,3 @@
--- Vocabulary.
-pub mod Results
-pub mod Digits
-pub mod Loops
 -- Refusals, well-formed monitors and events read.
 pub mod Opening
 pub mod Formed

@@ -1,21 +1,21 @@
 -- What a policy read says of an opening: its number is the opening's, and where it is accepted the rows decide.
 use mathlib.Core.Path.{_≡_, refl, sym, subst, _∙_}
 use mathlib.Core.Logic.{_≢_}
-use mathlib.Core.Bool.{Bool, true, false, not, cond}
+use mathlib.Core.Bool.{Bool, true, false, not, _&&_, cond}
 use mathlib.Core.List.{List, [], _∷_}
 use Prim.Native.Nat.{ℕ}
 use lib.Dec.{eqb}
 use lib.ListN.{length}
-use borrow.Author.Tests.{eqb-true, eqb-false, ne-eqb}
+use borrow.Author.Tests.{eqb-true, eqb-false, ne-eqb, not-false}
 use Rattle.soda.proofs.Bools.{by-test}
 use Rattle.policy.specs.Codes.{ROWS}
 use Rattle.policy.specs.Refusals.{_gives_, code, Refusals, Clear}
 use Rattle.policy.specs.Words.{decode}
-use Rattle.policy.specs.Reading.{refusals, unitsOf, readPolicy}
+use Rattle.policy.specs.Reading.{countOk, refusals, unitsOf, readPolicy}
 use Rattle.policy.specs.declared.PolicyRead.{PolicyRead}
 use Rattle.policy.specs.declared.PolicyRead.the-variants.{Accepted, Refused}
 use Rattle.policy.proofs.Refusals.{clear, code-front, code-behind}
-use Rattle.monitor.specs.Configurations.{rowsOk}
+use Rattle.instance.specs.Configurations.{rowsOk, configurationOf, givenConfiguration}
 use Rattle.monitor.specs.Monitors.{Opening, blank, openRefusals, openCode, fresh, opened, opening}
 use Rattle.monitor.specs.Laws.{OpenedIsFresh}
 
@@ -67,6 +67,18 @@ module _ (o : Opening) where
   pub code-accepted : Clear policy-refusals → openCode o ≡ cond (rowsOk (o .users) (o .roles) (o .rows)) 0 ROWS
   unfolding openRefusals
   code-accepted h = code-behind policy-refusals rows-refusal h ∙ by-test (rowsOk (o .users) (o .roles) (o .rows)) (λ p. rw p) (λ p. rw p)
+
+  -- the configuration's number is the opening's, and where it is 0 the configuration is the opening's too
+  pub configuration-code : Clear policy-refusals → givenConfiguration (o .users) (o .roles) (o .rows) .code ≡ openCode o
+  unfolding givenConfiguration
+  configuration-code h =
+      let counts = not-false (countOk (o .users) && countOk (o .roles)) (h .0) in
+      by-test (rowsOk (o .users) (o .roles) (o .rows)) (λ p. rw (code-accepted h, counts, p)) (λ p. rw (code-accepted h, counts, p))
+
+  pub configuration-given : givenConfiguration (o .users) (o .roles) (o .rows) .code ≡ 0
+      → givenConfiguration (o .users) (o .roles) (o .rows) .configuration ≡ configurationOf (o .users) (o .roles) (o .rows)
+  unfolding givenConfiguration
+  configuration-given e = rw e
 
   -- what an opening gives, by its number
   pub opening-refused : (k : ℕ) → k ≢ 0 → openCode o ≡ k → record { code = k; monitor = blank } ≡ opening o

@@ -12,12 +12,12 @@ use Rattle.soda.proofs.Bools.{never, and-split}
 use Rattle.policy.specs.Codes.{NOT-POSSIBLE, NOT-SATISFIED}
 use Rattle.policy.specs.Refusals.{code, Refusals, numbered, Clear}
 use Rattle.policy.proofs.Refusals.{clear-code, code-front, code-behind}
-use Rattle.monitor.specs.declared.Configuration.{Configuration}
-use Rattle.monitor.specs.declared.Instance.{Instance}
+use Rattle.instance.specs.declared.Configuration.{Configuration}
+use Rattle.instance.specs.declared.Instance.{Instance}
 use Rattle.monitor.specs.declared.Monitor.{Monitor}
 use Rattle.monitor.specs.declared.Event.{Event}
 use Rattle.monitor.specs.declared.Event.the-variants.{Acts, Grants, Revokes, Closes, Malformed}
-use Rattle.monitor.specs.Instances.{isClosed}
+use Rattle.instance.specs.Instances.{isClosed}
 use Rattle.monitor.specs.Monitors.{wellFormed, admission}
 use Rattle.monitor.specs.Events.{eventIn, isMalformed, entry, ownRefusals, configured, advanced, applied, workspaceAfter, eventRefusals, Outcome, outcome}
 use Rattle.monitor.specs.Laws.{WellFormedIsAdmitted, AcceptedHasPassed}

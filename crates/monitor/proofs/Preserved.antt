@@ -23,23 +23,24 @@ use Rattle.soda.proofs.Splits.{split-append, all-parts, all-replicate}
 use Rattle.policy.specs.Words.{decode}
 use Rattle.policy.specs.Reading.{lengthOk, unitsOf, metIn, metOf}
 use Rattle.policy.proofs.Refusals.{clear, clear-code}
-use Rattle.monitor.specs.declared.Configuration.{Configuration}
-use Rattle.monitor.specs.declared.Instance.{Instance}
+use Rattle.instance.specs.declared.Configuration.{Configuration}
+use Rattle.instance.specs.declared.Instance.{Instance}
 use Rattle.monitor.specs.declared.Event.{Event}
 use Rattle.monitor.specs.declared.Event.the-variants.{Acts, Grants, Revokes, Closes, Malformed}
-use Rattle.monitor.specs.Configurations.{assignment, held, withRow, isZero, configurationOf}
-use Rattle.monitor.specs.Instances.{policyOf, takenOf, notedFor, withAction, instanceOf, actionOk, isIdle, noAction}
+use Rattle.instance.specs.Configurations.{assignment, held, withRow, isZero, configurationOf}
+use Rattle.instance.specs.Instances.{policyOf, takenOf, notedFor, withAction, instanceOf, actionOk, isIdle, noAction}
 use Rattle.monitor.specs.Monitors.{Opening, openCode, fresh}
 use Rattle.monitor.specs.Events.{eventIn, ownRefusals, applied, outcome}
 use Rattle.monitor.specs.Laws.{Passed}
 use Rattle.monitor.specs.Effects.{OpenedIsWellFormed, AcceptedStaysWellFormed, EventKeepsWellFormed}
 use Rattle.monitor.specs.Private.{Entered}
-use Rattle.monitor.proofs.Digits.{or-is-set, sub-is-clear}
+use Rattle.instance.proofs.Digits.{or-is-set, sub-is-clear}
 use Rattle.monitor.proofs.Reading.{declared, entered}
 use Rattle.monitor.proofs.Order.{accepted-has-passed}
-use Rattle.monitor.proofs.Formed.{ConfigurationFormed, InstanceFormed, Formed, formed, is-formed, words-few, one-each, opens-clear, opens-read, opened-rows-ok}
+use Rattle.instance.proofs.Formed.{ConfigurationFormed, InstanceFormed, words-few, one-each}
+use Rattle.monitor.proofs.Formed.{Formed, formed, is-formed, opens-clear, opens-read, opened-rows-ok}
 use Rattle.monitor.proofs.Opening.{policy-refusals}
-use Rattle.monitor.proofs.Fillable.{taken-more}
+use Rattle.instance.proofs.Formed.{taken-more}
 
 -- ── tests of all elements ──
 module _ {A : Type 0} (f : A → Bool) where

@@ -5,17 +5,18 @@ use Prim.Native.Nat.{ℕ, _/_, _%_, _^_}
 use lib.Dec.{leb, ltb, eqb}
 use lib.ListN.{length}
 use Rattle.soda.specs.Tables.{satisfied, possible}
+use Rattle.soda.specs.declared.Action.{Action}
 use Rattle.policy.specs.Codes.{ACCEPTED, MALFORMED, FULL, NOT-POSSIBLE, CLOSED, NOT-SATISFIED}
 use Rattle.policy.specs.Kinds.{ACTION, GRANT, REVOKE, CLOSE}
 use Rattle.policy.specs.Refusals.{_gives_, code}
 use Rattle.workspace.specs.Workspace.{filled}
-use Rattle.monitor.specs.declared.Configuration.{Configuration}
-use Rattle.monitor.specs.declared.Instance.{Instance}
+use Rattle.instance.specs.declared.Configuration.{Configuration}
+use Rattle.instance.specs.declared.Instance.{Instance}
 use Rattle.monitor.specs.declared.Monitor.{Monitor}
 use Rattle.monitor.specs.declared.Event.{Event}
 use Rattle.monitor.specs.declared.Event.the-variants.{Acts, Grants, Revokes, Closes, Malformed}
-use Rattle.monitor.specs.Configurations.{withGrant, withoutGrant}
-use Rattle.monitor.specs.Instances.{takenOf, term, isClosed, notedFor, tried, withAction, asClosed}
+use Rattle.instance.specs.Configurations.{withGrant, withoutGrant}
+use Rattle.instance.specs.Instances.{takenOf, term, isClosed, notedFor, withAction, asClosed}
 use Rattle.monitor.specs.Monitors.{admission}
 
 -- ── the word ──
@@ -45,6 +46,10 @@ isMalformed Closes = false
 isMalformed Malformed = true
 
 -- ── the refusals: 12, 15, then 10, 7, then 8, 9 or 11 ──
+-- all taken actions with one more by user u
+abbrev pub tried : Configuration → Instance → ℕ → List Action
+tried c i u = takenOf i ++ (notedFor c i u ∷ [])
+
 abbrev pub entry : Instance → Event → List (Bool × ℕ)
 entry i e = (isClosed i gives CLOSED) ∷ (isMalformed e gives MALFORMED) ∷ []
 

@@ -1,18 +1,15 @@
 -- What is proved of openings, well-formed monitors and events. Statements only.
 use mathlib.Core.Path.{_≡_}
 use mathlib.Core.Bool.{false, So}
-use mathlib.Core.List.{List, [], _∷_, _++_}
+use mathlib.Core.List.{[]}
 use Prim.Native.Nat.{ℕ, _≤_, _<_}
-use lib.ListN.{length}
-use Rattle.soda.specs.declared.Action.{Action}
 use Rattle.policy.specs.Refusals.{code}
 use Rattle.policy.specs.Accepted.{IsPolicy}
-use Rattle.monitor.specs.declared.Instance.{Instance}
 use Rattle.monitor.specs.declared.Monitor.{Monitor}
 use Rattle.monitor.specs.declared.Event.{Event}
 use Rattle.monitor.specs.declared.Event.the-variants.{Acts, Grants, Revokes, Closes, Malformed}
-use Rattle.monitor.specs.Configurations.{rowsOk}
-use Rattle.monitor.specs.Instances.{takenOf, isClosed, withAction}
+use Rattle.instance.specs.Configurations.{rowsOk}
+use Rattle.instance.specs.Instances.{isClosed}
 use Rattle.monitor.specs.Monitors.{Opening, policy, openCode, fresh, opened, wellFormed, admission}
 use Rattle.monitor.specs.Events.{readEvent, isMalformed, ownRefusals, eventRefusals}
 
@@ -24,12 +21,9 @@ OpenedIsFresh = (o : Opening) → openCode o ≡ 0 → opened o ≡ fresh o
 abbrev pub OpenedIsPolicy : Type 0
 OpenedIsPolicy = (o : Opening) → openCode o ≡ 0 → IsPolicy (o .users) (o .roles) (o .words) (policy o)
 
--- .. and 6 does not apply to its grants, so they are one row a user.
+-- .. and 6 does not apply to its grants.
 abbrev pub OpenedRowsOk : Type 0
 OpenedRowsOk = (o : Opening) → openCode o ≡ 0 → So (rowsOk (o .users) (o .roles) (o .rows))
-
-abbrev pub OneEach : Type 0
-OneEach = (users roles : ℕ) (rows : List ℕ) → So (rowsOk users roles rows) → length rows ≡ users
 
 -- ── a well-formed monitor ──
 -- It holds at most twelve actions, and where the workspace is long enough, of length n, neither 12 nor 15 applies to it.
@@ -63,7 +57,3 @@ pub record Passed (m : Monitor) (e : Event) (n : ℕ) : Type 0 where
 -- An accepted event has passed them all.
 abbrev pub AcceptedHasPassed : Type 0
 AcceptedHasPassed = (m : Monitor) (e : Event) (n : ℕ) → code (eventRefusals m e n) ≡ 0 → Passed m e n
-
--- An action that is taken stands behind the taken ones.
-abbrev pub TakenMore : Type 0
-TakenMore = (i : Instance) (a : Action) → i .taken < length (i .actions) → takenOf (withAction i a) ≡ takenOf i ++ (a ∷ [])

@@ -1,5 +1,3 @@
-pub mod Configurations
-pub mod Instances
 pub mod Monitors
 pub mod Events
 pub mod Statuses

@@ -10,8 +10,8 @@ use Rattle.policy.specs.Words.{decode, termOf}
 use Rattle.policy.specs.Reading.{refusals}
 use Rattle.monitor.specs.declared.Monitor.{Monitor}
 use Rattle.monitor.specs.declared.Answer.{Answer}
-use Rattle.monitor.specs.Configurations.{noConfiguration, configurationOf, rowsOk, configurationOk}
-use Rattle.monitor.specs.Instances.{noInstance, instanceOf, instanceOk}
+use Rattle.instance.specs.Configurations.{noConfiguration, configurationOf, rowsOk, configurationOk}
+use Rattle.instance.specs.Instances.{noInstance, instanceOf, instanceOk}
 
 -- ── opening ──
 -- what an opening is given: the counts, the policy's words and the grants

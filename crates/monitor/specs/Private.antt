@@ -10,17 +10,17 @@ use Rattle.policy.specs.Refusals.{code}
 use Rattle.policy.specs.Words.{decode}
 use Rattle.policy.specs.Reading.{lengthOk, metOf}
 use Rattle.workspace.specs.Workspace.{filled, isFillable}
-use Rattle.monitor.specs.declared.Configuration.{Configuration}
-use Rattle.monitor.specs.declared.Instance.{Instance}
+use Rattle.instance.specs.declared.Configuration.{Configuration}
+use Rattle.instance.specs.declared.Instance.{Instance}
 use Rattle.monitor.specs.declared.Monitor.{Monitor}
 use Rattle.monitor.specs.declared.Event.{Event}
 use Rattle.monitor.specs.declared.Event.the-variants.{Acts, Grants, Revokes, Closes, Malformed}
-use Rattle.monitor.specs.declared.instances.Check.{Check}
+use Rattle.instance.specs.declared.Check.{Check}
 use Rattle.monitor.specs.declared.monitors.Admission.{Admission}
-use Rattle.monitor.specs.Configurations.{held, configurationOk}
+use Rattle.instance.specs.Configurations.{held, configurationOk}
 use Rattle.monitor.specs.Monitors.{admission}
-use Rattle.monitor.specs.Instances.{policyOf, takenOf, term, notedFor, tried, withAction, instanceOk}
-use Rattle.monitor.specs.Events.{ownRefusals, advanced, applied, workspaceAfter, Outcome}
+use Rattle.instance.specs.Instances.{policyOf, takenOf, term, notedFor, withAction, instanceOk}
+use Rattle.monitor.specs.Events.{tried, ownRefusals, advanced, applied, workspaceAfter, Outcome}
 use Rattle.monitor.specs.Statuses.{letterOf}
 
 -- what is noted of user u

@@ -7,11 +7,11 @@ use lib.ListN.{length}
 use Rattle.soda.specs.Tables.{satisfied}
 use Rattle.policy.specs.Refusals.{code}
 use Rattle.workspace.specs.Workspace.{filled}
-use Rattle.monitor.specs.declared.Instance.{Instance}
+use Rattle.instance.specs.declared.Instance.{Instance}
 use Rattle.monitor.specs.declared.Monitor.{Monitor}
 use Rattle.monitor.specs.declared.Status.{Status}
 use Rattle.monitor.specs.declared.Status.the-variants.{Closed, Complete, Open, Refused}
-use Rattle.monitor.specs.Instances.{takenOf, term, isClosed}
+use Rattle.instance.specs.Instances.{takenOf, term, isClosed}
 use Rattle.monitor.specs.Monitors.{admission}
 
 -- the letters `d`, `c` and `o` as bytes

@@ -2,9 +2,9 @@
 ghost use mathlib.Core.Path.{_≡_};
 ghost use Rattle.monitor.specs.Statuses.{statusNumber, letter, statusOf};
 ghost use Rattle.monitor.specs.Private.{Fillable, Evaluated, Stated};
-use super::Instance;
 use super::Monitor;
 use super::Status;
+use instance::Instance;
 use policy::codes;
 
 // Whether the taken actions satisfy the policy, and whether they are possible.

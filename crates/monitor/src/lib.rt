@@ -1,33 +1,11 @@
 // The monitor of a quote by value: opening one, one event, and the status.
-mod configurations;
 mod evaluation;
 mod events;
-mod instances;
-mod lists;
 mod monitors;
 mod steps;
 
-use soda::Action;
-
-// A configuration (document 004, Definition 1): the roles that each user holds, bit r for role r, and the counts. Rows past the
-// users are zero.
-#[repr(C)]
-pub struct Configuration {
-    pub user_roles: [u16; 16],
-    pub users: u16,
-    pub roles: u16,
-}
-
-// An instance: the policy, the taken actions in order of arrival, the policy's word count, the number of the actions, and the closed
-// mark: 0 is open, every other value closed. Words and places past their numbers are zero.
-#[repr(C)]
-pub struct Instance {
-    pub policy: [u32; 31],
-    pub actions: [Action; 12],
-    pub words: u16,
-    pub taken: u8,
-    pub closed: u8,
-}
+use instance::Configuration;
+use instance::Instance;
 
 // A monitor (document 01: sheet). It has no padding: each of its bytes is a field's.
 #[repr(C)]

@@ -3,15 +3,12 @@ ghost use mathlib.Core.Path.{_≡_};
 ghost use Rattle.monitor.specs.Monitors.{given, blank, opening, wellFormed};
 ghost use Rattle.monitor.specs.Private.{Checked, Admits};
 use super::Answer;
-use super::Configuration;
-use super::Instance;
 use super::Monitor;
-use super::instances::Check;
-use super::instances::NOT_WELL_FORMED;
-use super::lists::rows_ok;
+use instance::Check;
+use instance::Configuration;
+use instance::Instance;
 use policy::PolicyRead;
 use policy::codes;
-use soda::Action;
 
 // What every call on a monitor asks first: 12, 15 or 0 and, if it is 0, the unit terms that a user meets.
 pub(crate) struct Admission {
@@ -22,18 +19,8 @@ pub(crate) struct Admission {
 impl Monitor {
     // All zero: what a refused opening hands back (document 01: the blank sheet).
     pub const BLANK: Self = Monitor {
-        configuration: Configuration {
-            user_roles: [0; 16],
-            users: 0,
-            roles: 0,
-        },
-        instance: Instance {
-            policy: [0; 31],
-            actions: [Action { user: 0, met: 0 }; 12],
-            words: 0,
-            taken: 0,
-            closed: 0,
-        },
+        configuration: Configuration::BLANK,
+        instance: Instance::BLANK,
     };
 
     // Opens a monitor under a policy: 0 and the monitor, or a number and the blank one.
@@ -41,20 +28,18 @@ impl Monitor {
         ensures { λ r. ⌜ r ≡ opening (given users roles (now (words .entry)) (now (rows .entry))) ⌝ }
     {
         let read = policy::read(users, roles, words);
-        let PolicyRead::Accepted {
-            words: count,
-            units: _,
-        } = read
-        else {
+        let PolicyRead::Accepted { words: _, units: _ } = read else {
             return refused(policy::number_of(read));
         };
-        if !rows_ok(users as u16, roles as u16, rows) {
-            return refused(codes::ROWS);
+        let configured = Configuration::open(users, roles, rows);
+        let code = configured.code;
+        if code != codes::ACCEPTED {
+            return refused(code);
         }
-        let configuration = Configuration::of(users, roles, rows);
-        let instance = Instance::under(words, count);
+        let configuration = configured.configuration;
+        let instance = Instance::under(words);
         Answer {
-            code: codes::ACCEPTED,
+            code,
             monitor: Monitor {
                 configuration,
                 instance,
@@ -68,7 +53,10 @@ impl Monitor {
     {
         let configuration = self.configuration;
         if !configuration.is_well_formed() {
-            return NOT_WELL_FORMED;
+            return Check {
+                well_formed: false,
+                met: 0,
+            };
         }
         let instance = self.instance;
         instance.check(configuration, user)

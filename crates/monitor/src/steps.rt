@@ -6,12 +6,12 @@ ghost use Rattle.monitor.specs.declared.Event.the-variants.{Closes};
 ghost use Rattle.monitor.specs.Events.{entry, outcome};
 ghost use Rattle.monitor.specs.Private.{Admitted, Trial, Acted, Entered, actor, Meets, Noting, ownOutcome, monitorOutcome};
 use super::Answer;
-use super::Configuration;
 use super::Event;
-use super::Instance;
 use super::Monitor;
 use super::evaluation::evaluate;
 use super::events::read_event;
+use instance::Configuration;
+use instance::Instance;
 use policy::codes;
 use soda::Action;
 

@@ -18,9 +18,10 @@ use Rattle.policy.proofs.Refusals.{clear, code-front, code-behind}
 use Rattle.policy.proofs.Scanning.{counts-most}
 use Rattle.workspace.specs.Workspace.{filled}
 use Rattle.workspace.proofs.Fillable.{policy-is-filled}
-use Rattle.monitor.specs.Configurations.{isZero}
+use Rattle.instance.specs.Configurations.{isZero}
 use Rattle.monitor.specs.Monitors.{Opening, policy, openRefusals, openCode}
-use Rattle.monitor.proofs.Formed.{one-each, opened-rows-ok, opened-is-policy}
+use Rattle.instance.proofs.Formed.{one-each}
+use Rattle.monitor.proofs.Formed.{opened-rows-ok, opened-is-policy}
 use Rattle.multiset.specs.MultisetTest.{verdictNumber, verdictLetter, total, listed, notedBy, testRefusals, testCode, testOf, Numbered}
 use Rattle.multiset.specs.Private.{Counted, used, Holds, Fillable}
 use Rattle.multiset.specs.declared.Actions.{Actions}

@@ -13,8 +13,8 @@ use Rattle.soda.specs.declared.Action.{Action}
 use Rattle.policy.specs.Codes.{MALFORMED, FULL, WORKSPACE}
 use Rattle.policy.specs.Refusals.{_gives_, code}
 use Rattle.workspace.specs.Workspace.{filled}
-use Rattle.monitor.specs.Configurations.{isZero}
-use Rattle.monitor.specs.Instances.{noted}
+use Rattle.instance.specs.Configurations.{isZero}
+use Rattle.instance.specs.Instances.{noted}
 use Rattle.monitor.specs.Monitors.{Opening, policy, openRefusals}
 use Rattle.multiset.specs.declared.Verdict.{Verdict}
 use Rattle.multiset.specs.declared.Verdict.the-variants.{Yes, No, Refused}

@@ -4,7 +4,7 @@ ghost use mathlib.Core.List.{map};
 ghost use Prim.Native.Nat.{_+_, _≤_};
 ghost use lib.ListN.{length, drop, replicate};
 ghost use Rattle.soda.specs.Roles.{roles};
-ghost use Rattle.monitor.specs.Instances.{noted};
+ghost use Rattle.instance.specs.Instances.{noted};
 ghost use Rattle.monitor.specs.Monitors.{given};
 ghost use Rattle.multiset.specs.MultisetTest.{verdictNumber, verdictLetter, total, listed, testOf, Numbered};
 ghost use Rattle.multiset.specs.Private.{Counted, Holds, Added, Fillable, Evaluated};

@@ -11,7 +11,7 @@ use lib.ListN.{length, getD, drop, replicate, length-replicate, length-map}
 use lib.Seq.{drop-cons}
 use Rattle.soda.specs.Roles.{roles}
 use Rattle.soda.specs.declared.Action.{Action}
-use Rattle.monitor.specs.Instances.{noted}
+use Rattle.instance.specs.Instances.{noted}
 use Rattle.multiset.specs.MultisetTest.{total, listed}
 use Rattle.multiset.specs.Private.{used, Added}
 use Rattle.multiset.specs.declared.Actions.{Actions}

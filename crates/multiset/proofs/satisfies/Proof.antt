@@ -13,7 +13,7 @@ use Rattle.soda.specs.Tables.{satisfied}
 use Rattle.soda.specs.declared.Action.{Action}
 use Rattle.policy.specs.Codes.{MALFORMED, FULL, WORKSPACE}
 use Rattle.workspace.specs.Workspace.{filled}
-use Rattle.monitor.specs.Configurations.{isZero}
+use Rattle.instance.specs.Configurations.{isZero}
 use Rattle.monitor.specs.Monitors.{Opening, given, policy, openCode}
 use Rattle.monitor.specs.declared.Answer.{Answer}
 use Rattle.multiset.specs.MultisetTest.{total, listed, notedBy, testRefusals, testCode}

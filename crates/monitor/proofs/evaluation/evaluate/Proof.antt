@@ -9,7 +9,7 @@ use lib.Pow.{pow-pos, pow-mono}
 use lib.Seq.{length-take-le}
 use Rattle.workspace.specs.Workspace.{filled}
 use Rattle.workspace.proofs.Verdicts.{whole-is-read}
-use Rattle.monitor.specs.Instances.{term, takenOf}
+use Rattle.instance.specs.Instances.{term, takenOf}
 use Rattle.soda.specs.Bits.{bit}
 use Rattle.soda.proofs.Bits.{low-bit, one-shl}
 use Rattle.soda.proofs.Lists.{length-mapped}

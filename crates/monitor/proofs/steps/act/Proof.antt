@@ -1,7 +1,7 @@
 -- Each return rewrites the definition with the tests that led there and with what the trial says.
 use borrow.Author.Needs.{needs}
 use borrow.Author.Tests.{le-leb, lt-leb}
-use Rattle.monitor.proofs.Results.{failed, passed}
+use Rattle.instance.proofs.Results.{failed, passed}
 use Rattle.monitor.proofs.steps.act.Statement.{statement}
 use Rattle.monitor.proofs.steps.act.Tie as tie
 

@@ -1,7 +1,7 @@
 -- Each return rewrites the definition with the test that led there and with what the evaluation says.
 use borrow.Author.Needs.{needs}
-use Rattle.monitor.proofs.Results.{failed, passed}
-use Rattle.monitor.proofs.Formed.{configuration-formed, instance-formed}
+use Rattle.instance.proofs.Results.{failed, passed}
+use Rattle.instance.proofs.Formed.{configuration-formed, instance-formed}
 use Rattle.monitor.proofs.Fillable.{fillable-formed}
 use Rattle.monitor.proofs.steps.close.Statement.{statement}
 use Rattle.monitor.proofs.steps.close.Tie as tie

@@ -1,12 +1,15 @@
 -- By the event: an action or a close moves the instance, a grant or revocation the configuration.
 use mathlib.Core.Path.{_≡_, refl, sym, subst, ap, _∙_}
+use mathlib.Core.Bool.{true}
 use Prim.Native.Nat.{ℕ, _<_}
 use native.Mathlib.Omega.{arith}
 use borrow.Author.Needs.{needs}
+use borrow.Author.Tests.{lt-ltb}
+use lib.Dec.{ltb}
 use Rattle.monitor.specs.declared.Event.{Event}
 use Rattle.monitor.specs.declared.Event.the-variants.{Acts, Grants, Revokes, Closes, Malformed}
 use Rattle.monitor.specs.Private.{Entered, Noting, monitorOutcome}
-use Rattle.monitor.proofs.Formed.{configuration-formed, users-most, roles-most}
+use Rattle.instance.proofs.Formed.{configuration-formed, roles-most}
 use Rattle.monitor.proofs.Order.{lifted}
 use Rattle.monitor.proofs.steps.perform.Statement.{statement}
 use Rattle.monitor.proofs.steps.perform.Tie as tie
@@ -22,12 +25,11 @@ module _ (i : tie.After-instance) where
   noting : (e : Event) → start .args .event ≡ e → Noting (start .args .monitor) e (start .args .met)
   noting e is = subst (λ (x : Event). Noting (start .args .monitor) x (start .args .met)) is (start .pre .2)
 
-  -- declared users and roles have a place in the rows
-  in-rows : (u r : ℕ) → (u < start .args .monitor .configuration .users) × (r < start .args .monitor .configuration .roles) → (u < 16) × (r < 16)
-  in-rows u r d =
+  -- a declared role has a bit in the rows
+  in-rows : (r : ℕ) → r < start .args .monitor .configuration .roles → ltb r 16 ≡ true
+  in-rows r d =
       let c = start .args .monitor .configuration in
-      let f = configuration-formed c (start .pre .0 .configuration-ok) in
-      (omega (arith, d .0, users-most c f), omega (arith, d .1, roles-most c f))
+      lt-ltb r 16 (omega (arith, d, roles-most c (configuration-formed c (start .pre .0 .configuration-ok))))
 
 enum-known-event : tie.Need-enum-known-event
 enum-known-event c = search needs
@@ -45,27 +47,11 @@ answer-requires c κs = search needs
 enum-known-event-2 : tie.Need-enum-known-event-2
 enum-known-event-2 c = search needs
 
-with-grant-requires : tie.Need-with-grant-requires
-with-grant-requires c κs =
-    let v = c .before in
-    let i = v .before .before in
-    let u : ℕ = v .event2 .given .0 .0 in
-    let r : ℕ = v .event2 .given .0 .1 .0 in
-    in-rows i u r (names i (Grants u r) (v .event2 .given .1))
-
 answer-requires-2 : tie.Need-answer-requires-2
 answer-requires-2 c κs = search needs
 
 enum-known-event-3 : tie.Need-enum-known-event-3
 enum-known-event-3 c = search needs
-
-without-grant-requires : tie.Need-without-grant-requires
-without-grant-requires c κs =
-    let v = c .before in
-    let i = v .before .before in
-    let u : ℕ = v .event3 .given .0 .0 in
-    let r : ℕ = v .event3 .given .0 .1 .0 in
-    in-rows i u r (names i (Revokes u r) (v .event3 .given .1))
 
 answer-requires-3 : tie.Need-answer-requires-3
 answer-requires-3 c κs = search needs
@@ -108,12 +94,20 @@ returns c =
 returns-2 : tie.Need-returns-2
 returns-2 c =
     let g = c .before in
-    rw (c .answer2 .ensures, g .with-grant .ensures, g .before .before .event2 .given .1)
+    let v = g .before .before in
+    let u : ℕ = v .event2 .given .0 .0 in
+    let r : ℕ = v .event2 .given .0 .1 .0 in
+    let few = in-rows (v .before .before) r (names (v .before .before) (Grants u r) (v .event2 .given .1) .1) in
+    rw (c .answer2 .ensures, g .with-grant .ensures, v .event2 .given .1, few)
 
 returns-3 : tie.Need-returns-3
 returns-3 c =
     let g = c .before in
-    rw (c .answer3 .ensures, g .without-grant .ensures, g .before .before .event3 .given .1)
+    let v = g .before .before in
+    let u : ℕ = v .event3 .given .0 .0 in
+    let r : ℕ = v .event3 .given .0 .1 .0 in
+    let few = in-rows (v .before .before) r (names (v .before .before) (Revokes u r) (v .event3 .given .1) .1) in
+    rw (c .answer3 .ensures, g .without-grant .ensures, v .event3 .given .1, few)
 
 same-length-2 : tie.Need-same-length-2
 same-length-2 c = search needs
@@ -140,10 +134,10 @@ perform-spec =
     act-requires
     answer-requires
     enum-known-event-2
-    with-grant-requires
+    (λ c κs. search needs)
     answer-requires-2
     enum-known-event-3
-    without-grant-requires
+    (λ c κs. search needs)
     answer-requires-3
     enum-told
     close-requires

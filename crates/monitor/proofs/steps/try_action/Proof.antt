@@ -4,15 +4,17 @@ use mathlib.Core.List.{List}
 use Prim.Native.Nat.{ℕ, _<_}
 use native.Mathlib.Omega.{arith}
 use borrow.Author.Needs.{needs}
+use borrow.Author.Tests.{lt-ltb}
 use lib.ListN.{length}
 use Rattle.soda.specs.Tables.{possible}
 use Rattle.soda.specs.declared.Action.{Action}
 use Rattle.workspace.specs.Workspace.{filled}
-use Rattle.monitor.specs.declared.Instance.{Instance}
-use Rattle.monitor.specs.Instances.{term, takenOf, notedFor, withAction}
+use Rattle.instance.specs.declared.Instance.{Instance}
+use Rattle.instance.specs.Instances.{term, takenOf, notedFor, withAction}
 use Rattle.soda.proofs.Lists.{length-mapped}
-use Rattle.monitor.proofs.Formed.{ConfigurationFormed, InstanceFormed, configuration-formed, instance-formed}
-use Rattle.monitor.proofs.Fillable.{taken-more, fillable-more}
+use Rattle.instance.proofs.Formed.{ConfigurationFormed, InstanceFormed, configuration-formed, instance-formed}
+use Rattle.instance.proofs.Formed.{taken-more}
+use Rattle.monitor.proofs.Fillable.{fillable-more}
 use Rattle.monitor.proofs.steps.try_action.Statement.{statement}
 use Rattle.monitor.proofs.steps.try_action.Tie as tie
 
@@ -42,7 +44,7 @@ module _ (c : tie.After-with-action) where
 
   tried-is : c .with-action .result ≡ withAction (start .args .instance) (own start)
   tried-is =
-      c .with-action .ensures
+      (rw (lt-ltb (start .args .instance .taken) 12 (start .pre .1)) at (c .with-action .ensures))
       ∙ ap (withAction (start .args .instance)) (c .before .new .ensures ∙ ap (λ (met : ℕ). record { user = start .args .user; met = met }) (start .pre .3))
 
 evaluate-requires : tie.Need-evaluate-requires

@@ -1,0 +1,133 @@
+// The configuration: as an opening gives it, a role granted or revoked, and its part of number 15.
+ghost use mathlib.Core.Path.{_≡_};
+ghost use mathlib.Core.Bool.{cond};
+ghost use lib.Dec.{ltb};
+ghost use Rattle.policy.specs.Reading.{surveyOf};
+ghost use Rattle.instance.specs.Configurations.{held, noConfiguration, givenConfiguration, withRow, withGrant, withoutGrant, configurationOk};
+use super::Configuration;
+use super::Configured;
+use super::lists::counts_ok;
+use super::lists::padded_rows;
+use super::lists::rows_ok;
+use super::lists::with_role;
+use super::lists::without_role;
+use super::lists::zero_rows;
+use policy::Survey;
+use policy::codes;
+
+// A refused configuration: its number, and all zero.
+fn refused(code: u8) -> Configured
+    ensures { λ r. ⌜ r ≡ record { code = code; configuration = noConfiguration } ⌝ }
+{
+    Configured {
+        code,
+        configuration: Configuration::BLANK,
+    }
+}
+
+// A policy that is refused.
+const NO_SURVEY: Survey = Survey {
+    accepted: false,
+    units: 0,
+    met: 0,
+};
+
+impl Configuration {
+    // All zero.
+    pub const BLANK: Self = Configuration {
+        user_roles: [0; 16],
+        users: 0,
+        roles: 0,
+    };
+
+    // The counts and the rows of an opening: 0 and the configuration, or 5 or 6 and all zero.
+    pub fn open(users: u8, roles: u8, rows: &[u16]) -> Configured
+        ensures { λ r. ⌜ r ≡ givenConfiguration users roles (now (rows .entry)) ⌝ }
+    {
+        if !counts_ok(users as u16, roles as u16) {
+            return refused(codes::COUNTS);
+        }
+        if !rows_ok(users as u16, roles as u16, rows) {
+            return refused(codes::ROWS);
+        }
+        let user_roles = padded_rows(rows);
+        Configured {
+            code: codes::ACCEPTED,
+            configuration: Configuration {
+                user_roles,
+                users: users as u16,
+                roles: roles as u16,
+            },
+        }
+    }
+
+    // The roles that a user holds; none for a user without a row.
+    pub fn held(self, user: u8) -> u16
+        ensures { λ r. ⌜ r ≡ held self user ⌝ }
+    {
+        let rows = self.user_roles;
+        if user < 16 { rows[user as usize] } else { 0 }
+    }
+
+    // With another row for a user; a user without a row alters nothing.
+    fn with_row(self, user: u8, row: u16) -> Self
+        ensures { λ r. ⌜ r ≡ withRow self user row ⌝ }
+    {
+        let mut next = self;
+        if user < 16 {
+            next.user_roles[user as usize] = row;
+        }
+        next
+    }
+
+    // The user holds the role; a role that no row has a bit for alters nothing.
+    pub fn with_grant(self, user: u8, role: u8) -> Self
+        ensures { λ r. ⌜ r ≡ cond (ltb role 16) (withGrant self user role) self ⌝ }
+    {
+        if 16 <= role {
+            return self;
+        }
+        self.with_row(user, with_role(self.held(user), role))
+    }
+
+    // The user does not hold the role; else the same.
+    pub fn without_grant(self, user: u8, role: u8) -> Self
+        ensures { λ r. ⌜ r ≡ cond (ltb role 16) (withoutGrant self user role) self ⌝ }
+    {
+        if 16 <= role {
+            return self;
+        }
+        self.with_row(user, without_role(self.held(user), role))
+    }
+
+    // Whether the counts and the rows would be accepted, and unused rows are zero.
+    pub fn is_well_formed(self) -> bool
+        ensures { λ r. ⌜ r ≡ configurationOk self ⌝ }
+    {
+        if !counts_ok(self.users, self.roles) {
+            return false;
+        }
+        let rows = self.user_roles;
+        let users = self.users as usize;
+        if !rows_ok(self.users, self.roles, &rows[..users]) {
+            return false;
+        }
+        zero_rows(rows, users)
+    }
+
+    // What a user meets of a policy, and whether the policy is accepted with these counts.
+    pub(crate) fn survey(self, words: &[u32], user: u8) -> Survey
+        ensures { λ r. ⌜ r ≡ surveyOf (self .users) (self .roles) (now (words .entry)) user (held self user) ⌝ }
+    {
+        if !counts_ok(self.users, self.roles) {
+            return NO_SURVEY;
+        }
+        policy::survey_of(
+            self.users as u8,
+            self.roles as u8,
+            words,
+            user,
+            self.held(user),
+        )
+    }
+}

@@ -1,0 +1,165 @@
+// The instance: as it starts under a policy, an action taken, a close, and its part of number 15.
+ghost use mathlib.Core.Path.{_≡_};
+ghost use mathlib.Core.Bool.{_&&_, cond};
+ghost use Prim.Native.Nat.{_≤_};
+ghost use lib.Dec.{leb, ltb};
+ghost use lib.ListN.{length, take, drop};
+ghost use Rattle.soda.specs.Lists.{all};
+ghost use Rattle.instance.specs.Instances.{takenOf, isClosed, noInstance, instanceOf, withAction, asClosed, isIdle, actionOk, isTidy, checkOf};
+use super::Check;
+use super::Configuration;
+use super::Instance;
+use super::lists::padded_words;
+use super::lists::zero_words;
+use soda::Action;
+
+const NOT_WELL_FORMED: Check = Check {
+    well_formed: false,
+    met: 0,
+};
+
+// Whether an unused place is all zero.
+fn is_idle(a: Action) -> bool
+    ensures { λ r. ⌜ r ≡ isIdle a ⌝ }
+{
+    (a.user == 0) & (a.met == 0)
+}
+
+// Whether a taken action is by a declared user, and has bits at words that begin unit terms only.
+fn action_ok(users: u16, units: u32, a: Action) -> bool
+    ensures { λ r. ⌜ r ≡ actionOk users units a ⌝ }
+{
+    let met = a.met;
+    (a.user < users as u32) & (met & units == met)
+}
+
+// Whether each taken action is so.
+fn actions_ok(users: u16, units: u32, actions: [Action; 12], taken: usize) -> bool
+    requires { ⌜ taken ≤ 12 ⌝ }
+    ensures { λ r. ⌜ r ≡ all (actionOk users units) (take taken actions) ⌝ }
+{
+    let mut i = 0;
+    while i < taken {
+        if !action_ok(users, units, actions[i]) {
+            return false;
+        }
+        i += 1;
+    }
+    true
+}
+
+// Whether the places from one on are unused.
+fn idle_actions(actions: [Action; 12], from: usize) -> bool
+    ensures { λ r. ⌜ r ≡ all isIdle (drop from actions) ⌝ }
+{
+    let mut i = from;
+    while i < 12 {
+        if !is_idle(actions[i]) {
+            return false;
+        }
+        i += 1;
+    }
+    true
+}
+
+impl Instance {
+    // All zero.
+    pub const BLANK: Self = Instance {
+        policy: [0; 31],
+        actions: [Action { user: 0, met: 0 }; 12],
+        words: 0,
+        taken: 0,
+        closed: 0,
+    };
+
+    // An instance under a policy of these words: no action, not closed. All zero for more words than a policy has.
+    pub fn under(words: &[u32]) -> Self
+        ensures { λ r. ⌜ r ≡ cond (leb (length (now (words .entry))) 31) (instanceOf (now (words .entry))) noInstance ⌝ }
+    {
+        let mut next = Instance::BLANK;
+        if words.len() <= 31 {
+            let policy = padded_words(words);
+            next.policy = policy;
+            next.words = words.len() as u16;
+        }
+        next
+    }
+
+    // Whether the mark is set.
+    pub fn is_closed(self) -> bool
+        ensures { λ r. ⌜ r ≡ isClosed self ⌝ }
+    {
+        self.closed != 0
+    }
+
+    // The next place holds the action, and there is one more. The thirteenth alters nothing.
+    pub fn with_action(self, action: Action) -> Self
+        ensures { λ r. ⌜ r ≡ cond (ltb (self .taken) 12) (withAction self action) self ⌝ }
+    {
+        let at = self.taken;
+        if 12 <= at {
+            return self;
+        }
+        let mut next = self;
+        next.actions[at as usize] = action;
+        next.taken = at + 1;
+        next
+    }
+
+    // The mark is set.
+    pub fn as_closed(self) -> Self
+        ensures { λ r. ⌜ r ≡ asClosed self ⌝ }
+    {
+        let mut next = self;
+        next.closed = 1;
+        next
+    }
+
+    // Whether at most twelve actions are taken, each as it must be.
+    fn is_taken_ok(self, users: u16, units: u32) -> bool
+        ensures { λ r. ⌜ r ≡ (leb (self .taken) 12 && all (actionOk users units) (takenOf self)) ⌝ }
+    {
+        if 12 < self.taken {
+            return false;
+        }
+        let actions = self.actions;
+        actions_ok(users, units, actions, self.taken as usize)
+    }
+
+    // Whether every unused policy word and place is zero.
+    fn is_tidy(self) -> bool
+        ensures { λ r. ⌜ r ≡ isTidy self ⌝ }
+    {
+        let policy = self.policy;
+        if !zero_words(policy, self.words as usize) {
+            return false;
+        }
+        let actions = self.actions;
+        idle_actions(actions, self.taken as usize)
+    }
+
+    // Whether the policy would be accepted, the taken actions are as they must be, and what is unused is zero; and what a user meets.
+    pub fn check(self, configuration: Configuration, user: u8) -> Check
+        ensures { λ r. ⌜ r ≡ checkOf configuration self user ⌝ }
+    {
+        let words = self.words as usize;
+        if 31 < words {
+            return NOT_WELL_FORMED;
+        }
+        let policy = self.policy;
+        let survey = configuration.survey(&policy[..words], user);
+        if !survey.accepted {
+            return NOT_WELL_FORMED;
+        }
+        if !self.is_taken_ok(configuration.users, survey.units) {
+            return NOT_WELL_FORMED;
+        }
+        if !self.is_tidy() {
+            return NOT_WELL_FORMED;
+        }
+        Check {
+            well_formed: true,
+            met: survey.met,
+        }
+    }
+}
