@@ -3,13 +3,14 @@ use mathlib.Core.Path.{_≡_, refl, subst, ap, _∙_}
 use mathlib.Core.Logic.{_≢_}
 use mathlib.Core.Bool.{Bool, true, false, So, not, _&&_, cond}
 use mathlib.Core.List.{List, [], _∷_, _++_}
-use Prim.Native.Nat.{ℕ, _≤_}
+use Prim.Native.Nat.{ℕ, _≤_, _<_}
 use lib.Dec.{eqb}
 use lib.ListN.{length}
-use borrow.Author.Tests.{ltb-false, le-ltb, ne-eqb, not-true, not-false}
+use borrow.Author.Tests.{ltb-false, le-ltb, le-leb, lt-leb, ne-eqb, not-true, not-false}
 use Rattle.soda.specs.Lists.{all}
+use Rattle.soda.specs.Tables.{satisfied, possible}
 use Rattle.soda.proofs.Bools.{never, and-split}
-use Rattle.policy.specs.Codes.{NOT-POSSIBLE, NOT-SATISFIED}
+use Rattle.policy.specs.Codes.{ACCEPTED, FULL, NOT-POSSIBLE, NOT-SATISFIED}
 use Rattle.policy.specs.Refusals.{code, Refusals, numbered, Clear}
 use Rattle.policy.proofs.Refusals.{clear-code, code-front, code-behind}
 use Rattle.instance.specs.declared.Configuration.{Configuration}
@@ -17,9 +18,10 @@ use Rattle.instance.specs.declared.Instance.{Instance}
 use Rattle.monitor.specs.declared.Monitor.{Monitor}
 use Rattle.monitor.specs.declared.Event.{Event}
 use Rattle.monitor.specs.declared.Event.the-variants.{Acts, Grants, Revokes, Closes, Malformed}
-use Rattle.instance.specs.Instances.{isClosed}
+use Rattle.workspace.specs.Workspace.{filled}
+use Rattle.instance.specs.Instances.{term, takenOf, notedFor, withAction, asClosed, isClosed}
 use Rattle.monitor.specs.Monitors.{wellFormed, admission}
-use Rattle.monitor.specs.Events.{eventIn, isMalformed, entry, ownRefusals, configured, advanced, applied, workspaceAfter, eventRefusals, Outcome, outcome}
+use Rattle.monitor.specs.Events.{eventIn, isMalformed, entry, tried, ownRefusals, configured, advanced, applied, workspaceAfter, eventRefusals, Outcome, outcome}
 use Rattle.monitor.specs.Laws.{WellFormedIsAdmitted, AcceptedHasPassed}
 use Rattle.monitor.specs.Private.{InstanceOutcome, ownOutcome, monitorOutcome}
 
@@ -145,3 +147,27 @@ module _ (m : Monitor) (e : Event) (before : List ℕ) (stays : configured (m .c
       let k = code (ownRefusals (m .configuration) (m .instance) e) in
       ap (λ (x : InstanceOutcome). answered (x .code) (over (x .instance)) (x .workspace)) z
       ∙ ap (λ (l : Monitor). answered k l (workspaceAfter (m .configuration) (m .instance) e k before)) (moved (eqb k 0))
+
+-- ── what an action and a close give to an instance, by their tests ──
+module _ (c : Configuration) (i : Instance) (before : List ℕ) where
+  module _ (u a : ℕ) where
+    pub acts-on-full : 12 ≤ i .taken → record { code = FULL; instance = i; workspace = before } ≡ ownOutcome c i (Acts u a) before
+    acts-on-full h = simp (le-leb 12 (i .taken) h)
+
+    module _ (free : i .taken < 12) (after : List ℕ) (w : after ≡ filled (term i) (tried c i u) before) where
+      pub acts-not-possible : possible (term i) 0 (tried c i u) ≡ false
+          → record { code = NOT-POSSIBLE; instance = i; workspace = after } ≡ ownOutcome c i (Acts u a) before
+      acts-not-possible p = simp (w, lt-leb 12 (i .taken) free, p)
+
+      pub acts : (j : Instance) → j ≡ withAction i (notedFor c i u) → possible (term i) 0 (tried c i u) ≡ true
+          → record { code = ACCEPTED; instance = j; workspace = after } ≡ ownOutcome c i (Acts u a) before
+      acts j e p = simp (w, e, lt-leb 12 (i .taken) free, p)
+
+  module _ (after : List ℕ) (w : after ≡ filled (term i) (takenOf i) before) where
+    pub closes-not-satisfied : satisfied (term i) 0 (takenOf i) ≡ false
+        → record { code = NOT-SATISFIED; instance = i; workspace = after } ≡ ownOutcome c i Closes before
+    closes-not-satisfied p = simp (w, p)
+
+    pub closes : (j : Instance) → j ≡ asClosed i → satisfied (term i) 0 (takenOf i) ≡ true
+        → record { code = ACCEPTED; instance = j; workspace = after } ≡ ownOutcome c i Closes before
+    closes j e p = simp (w, e, p)

@@ -1,7 +1,8 @@
--- Each return rewrites the definition with the test that led there and with what the evaluation says.
+-- By the test that led to a return, and what the evaluation says.
 use borrow.Author.Needs.{needs}
 use Rattle.instance.proofs.Results.{failed, passed}
 use Rattle.instance.proofs.Formed.{configuration-formed, instance-formed}
+use Rattle.monitor.proofs.Order.{closes-not-satisfied, closes}
 use Rattle.monitor.proofs.Fillable.{fillable-formed}
 use Rattle.monitor.proofs.steps.close.Statement.{statement}
 use Rattle.monitor.proofs.steps.close.Tie as tie
@@ -23,7 +24,8 @@ same-length c = search needs
 returns : tie.Need-returns
 returns c =
     let j = evaluated (c .before) in
-    simp (failed (j .evaluate .ensures .is-satisfied) (c .if1 .taken), j .evaluate .ensures .workspace)
+    let s = j .before .before .before .args in
+    closes-not-satisfied (s .configuration) (s .instance) (s .workspace .now) _ (j .evaluate .ensures .workspace) (failed (j .evaluate .ensures .is-satisfied) (c .if1 .taken))
 
 as-closed-requires : tie.Need-as-closed-requires
 as-closed-requires c κs = search needs
@@ -35,7 +37,8 @@ returns-2 : tie.Need-returns-2
 returns-2 c =
     let e = c .before in
     let j = evaluated (e .before) in
-    simp (passed (j .evaluate .ensures .is-satisfied) (e .if1 .left), j .evaluate .ensures .workspace, c .as-closed .ensures)
+    let s = j .before .before .before .args in
+    closes (s .configuration) (s .instance) (s .workspace .now) _ (j .evaluate .ensures .workspace) _ (c .as-closed .ensures) (passed (j .evaluate .ensures .is-satisfied) (e .if1 .left))
 
 pub close-spec : {M : Type 1} → statement M
 close-spec =
