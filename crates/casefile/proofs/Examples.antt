@@ -4,7 +4,7 @@ use mathlib.Core.List.{List, [], _∷_}
 use Prim.Native.Nat.{ℕ}
 use Rattle.soda.specs.Bits.{setBit, clearBit}
 use Rattle.soda.specs.Tables.{table}
-use Rattle.policy.specs.Reading.{metOf}
+use Rattle.units.specs.Units.{metOf}
 use Rattle.instance.specs.Configurations.{configurationOk}
 use Rattle.instance.specs.Instances.{instanceOk}
 use Rattle.monitor.specs.Monitors.{openRefusals, fresh, opened, admission}

@@ -2,7 +2,8 @@
 use mathlib.Core.Path.{refl}
 use Rattle.soda.specs.Bits.{setBit, clearBit}
 use Rattle.soda.specs.Tables.{table as judgements}
-use Rattle.policy.specs.Reading.{metOf, readPolicy}
+use Rattle.policy.specs.Reading.{readPolicy}
+use Rattle.units.specs.Units.{metOf}
 use Rattle.normal.specs.NormalForms.{normalWords, normalRefusals, normalOut}
 use Rattle.instance.specs.Configurations.{configurationOk}
 use Rattle.instance.specs.Instances.{instanceOk}

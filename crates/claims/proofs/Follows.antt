@@ -25,7 +25,8 @@ use Rattle.soda.proofs.Tables.{empty-set}
 use Rattle.soda.proofs.Traces.{executed-append}
 use Rattle.policy.specs.Refusals.{code}
 use Rattle.policy.specs.Words.{decode, termOf}
-use Rattle.policy.specs.Reading.{lengthOk, metIn, metOf}
+use Rattle.policy.specs.Reading.{lengthOk}
+use Rattle.units.specs.Units.{metIn, metOf}
 use Rattle.policy.specs.Accepted.{IsPolicy}
 use Rattle.policy.proofs.Refusals.{clear}
 use Rattle.policy.proofs.Accepted.{decode-is-term}

@@ -6,8 +6,9 @@ use Prim.Native.Nat.{ℕ}
 use lib.Dec.{eqb}
 use Rattle.policy.specs.Refusals.{code}
 use Rattle.policy.specs.Words.{decode}
-use Rattle.policy.specs.Reading.{refusals, unitsOf, metOf, surveyOf}
-use Rattle.policy.specs.declared.Survey.{Survey}
+use Rattle.policy.specs.Reading.{refusals, unitsOf}
+use Rattle.units.specs.Units.{metOf, surveyOf}
+use Rattle.units.specs.declared.Survey.{Survey}
 
 module _ (users roles : ℕ) (words : List ℕ) (u h : ℕ) (r : Survey) (is : r ≡ surveyOf users roles words u h) where
   pub survey-accepted : r .accepted ≡ eqb (code (refusals users roles words)) 0

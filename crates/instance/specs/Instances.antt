@@ -10,7 +10,8 @@ use Rattle.soda.specs.Terms.{Term}
 use Rattle.soda.specs.declared.Action.{Action}
 use Rattle.policy.specs.Refusals.{code}
 use Rattle.policy.specs.Words.{decode, termOf}
-use Rattle.policy.specs.Reading.{refusals, unitsOf, metOf}
+use Rattle.policy.specs.Reading.{refusals, unitsOf}
+use Rattle.units.specs.Units.{metOf}
 use Rattle.instance.specs.declared.Configuration.{Configuration}
 use Rattle.instance.specs.declared.Instance.{Instance}
 use Rattle.instance.specs.declared.Check.{Check}

@@ -2,7 +2,7 @@
 ghost use mathlib.Core.Path.{_≡_};
 ghost use mathlib.Core.Bool.{cond};
 ghost use lib.Dec.{ltb};
-ghost use Rattle.policy.specs.Reading.{surveyOf};
+ghost use Rattle.units.specs.Units.{surveyOf};
 ghost use Rattle.instance.specs.Configurations.{held, noConfiguration, givenConfiguration, withRow, withGrant, withoutGrant, configurationOk};
 use super::Configuration;
 use super::Configured;
@@ -12,8 +12,8 @@ use super::lists::rows_ok;
 use super::lists::with_role;
 use super::lists::without_role;
 use super::lists::zero_rows;
-use policy::Survey;
 use policy::codes;
+use units::Survey;
 
 // A refused configuration: its number, and all zero.
 fn refused(code: u8) -> Configured
@@ -122,7 +122,7 @@ impl Configuration {
         if !counts_ok(self.users, self.roles) {
             return NO_SURVEY;
         }
-        policy::survey_of(
+        units::survey_of(
             self.users as u8,
             self.roles as u8,
             words,

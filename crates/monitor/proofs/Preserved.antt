@@ -21,7 +21,8 @@ use Rattle.soda.proofs.Bools.{never, and-split, and-join, so-lt, lt-so, eq-so, 
 use Rattle.soda.proofs.Bits.{half-digit}
 use Rattle.soda.proofs.Splits.{split-append, all-parts, all-replicate}
 use Rattle.policy.specs.Words.{decode}
-use Rattle.policy.specs.Reading.{lengthOk, unitsOf, metIn, metOf}
+use Rattle.policy.specs.Reading.{lengthOk, unitsOf}
+use Rattle.units.specs.Units.{metIn, metOf}
 use Rattle.policy.proofs.Refusals.{clear, clear-code}
 use Rattle.instance.specs.declared.Configuration.{Configuration}
 use Rattle.instance.specs.declared.Instance.{Instance}

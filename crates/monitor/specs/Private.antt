@@ -8,7 +8,8 @@ use lib.ListN.{length}
 use Rattle.soda.specs.Tables.{satisfied, possible}
 use Rattle.policy.specs.Refusals.{code}
 use Rattle.policy.specs.Words.{decode}
-use Rattle.policy.specs.Reading.{lengthOk, metOf}
+use Rattle.policy.specs.Reading.{lengthOk}
+use Rattle.units.specs.Units.{metOf}
 use Rattle.workspace.specs.Workspace.{filled, isFillable}
 use Rattle.instance.specs.declared.Configuration.{Configuration}
 use Rattle.instance.specs.declared.Instance.{Instance}

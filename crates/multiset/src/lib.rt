@@ -69,7 +69,7 @@ fn actions_of(words: &[u32], rows: &[u16], counts: [u8; 16]) -> Actions
     while user < rows.len() {
         let n = counts[user];
         if n != 0 {
-            let met = policy::met(words, user as u8, rows[user]);
+            let met = units::met(words, user as u8, rows[user]);
             actions = actions.with_more(Action::new(user as u8, met), n);
         }
         user += 1;

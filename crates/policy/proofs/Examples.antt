@@ -1,10 +1,10 @@
--- One computed test: what reading answers for each row of a table, and the unit terms that user 1 meets who holds roles 0 and 2.
+-- One computed test: what reading answers for each row of a table.
 use mathlib.Core.Path.{_≡_, refl}
 use mathlib.Core.List.{List, [], _∷_, map}
 use Prim.Native.Nat.{ℕ}
 use lib.ListN.{replicate}
 use Rattle.policy.specs.Codes.{WORD-COUNT, WORD, TERM, UNIT, COUNTS}
-use Rattle.policy.specs.Reading.{readPolicy, metOf}
+use Rattle.policy.specs.Reading.{readPolicy}
 use Rattle.policy.specs.declared.PolicyRead.{PolicyRead}
 use Rattle.policy.specs.declared.PolicyRead.the-variants.{Accepted, Refused}
 
@@ -13,11 +13,10 @@ record Case : Type 0 where
   roles : ℕ
   words : List ℕ
   answer : PolicyRead
-  met : ℕ
 
 -- counts, words, and what is expected
-abbrev row : ℕ → ℕ → List ℕ → PolicyRead → ℕ → Case
-row u r ws a m = record { users = u; roles = r; words = ws; answer = a; met = m }
+abbrev row : ℕ → ℕ → List ℕ → PolicyRead → Case
+row u r ws a = record { users = u; roles = r; words = ws; answer = a }
 
 -- 01's listing F
 abbrev F : List ℕ
@@ -35,32 +34,32 @@ long =
 
 abbrev cases : List Case
 cases =
-    row 3 3 F (Accepted 10 724) 724
+    row 3 3 F (Accepted 10 724)
     -- 31 words, and 32, which are no term either
-    ∷ row 1 1 long (Accepted 31 0x7fffffff) 0x7fffffff
-    ∷ row 1 1 (0x01000000 ∷ long) (Refused WORD-COUNT) 0
+    ∷ row 1 1 long (Accepted 31 0x7fffffff)
+    ∷ row 1 1 (0x01000000 ∷ long) (Refused WORD-COUNT)
     -- 5 before 1: counts out of range, and no word
-    ∷ row 17 3 [] (Refused COUNTS) 0
-    ∷ row 3 0 [] (Refused COUNTS) 0
-    ∷ row 16 16 [] (Refused WORD-COUNT) 0
+    ∷ row 17 3 [] (Refused COUNTS)
+    ∷ row 3 0 [] (Refused COUNTS)
+    ∷ row 16 16 [] (Refused WORD-COUNT)
     -- 1 before 2: 32 words out of the layout
-    ∷ row 3 3 (replicate 32 0) (Refused WORD-COUNT) 0
+    ∷ row 3 3 (replicate 32 0) (Refused WORD-COUNT)
     -- 2 before 3: bits 16 to 23, kind 0, kind 10, an operand, role 3, user 3, no user, each with a word left over
-    ∷ row 3 3 (0x01010000 ∷ 0x01000000 ∷ []) (Refused WORD) 0
-    ∷ row 3 3 (0x00000000 ∷ 0x01000000 ∷ []) (Refused WORD) 0
-    ∷ row 3 3 (0x0a000000 ∷ 0x01000000 ∷ []) (Refused WORD) 0
-    ∷ row 3 3 (0x01000001 ∷ 0x01000000 ∷ []) (Refused WORD) 0
-    ∷ row 3 3 (0x02000003 ∷ 0x01000000 ∷ []) (Refused WORD) 0
-    ∷ row 3 3 (0x03000008 ∷ 0x01000000 ∷ []) (Refused WORD) 0
-    ∷ row 3 3 (0x03000000 ∷ 0x01000000 ∷ []) (Refused WORD) 0
+    ∷ row 3 3 (0x01010000 ∷ 0x01000000 ∷ []) (Refused WORD)
+    ∷ row 3 3 (0x00000000 ∷ 0x01000000 ∷ []) (Refused WORD)
+    ∷ row 3 3 (0x0a000000 ∷ 0x01000000 ∷ []) (Refused WORD)
+    ∷ row 3 3 (0x01000001 ∷ 0x01000000 ∷ []) (Refused WORD)
+    ∷ row 3 3 (0x02000003 ∷ 0x01000000 ∷ []) (Refused WORD)
+    ∷ row 3 3 (0x03000008 ∷ 0x01000000 ∷ []) (Refused WORD)
+    ∷ row 3 3 (0x03000000 ∷ 0x01000000 ∷ []) (Refused WORD)
     -- 3 before 4: plus over together with a word left over, and with the words running out
-    ∷ row 3 3 (0x05000000 ∷ 0x08000000 ∷ 0x01000000 ∷ 0x01000000 ∷ 0x01000000 ∷ []) (Refused TERM) 0
-    ∷ row 3 3 (0x05000000 ∷ 0x08000000 ∷ 0x01000000 ∷ []) (Refused TERM) 0
+    ∷ row 3 3 (0x05000000 ∷ 0x08000000 ∷ 0x01000000 ∷ 0x01000000 ∷ 0x01000000 ∷ []) (Refused TERM)
+    ∷ row 3 3 (0x05000000 ∷ 0x08000000 ∷ 0x01000000 ∷ []) (Refused TERM)
     -- not over plus
-    ∷ row 3 3 (0x04000000 ∷ 0x05000000 ∷ 0x01000000 ∷ []) (Refused UNIT) 4
+    ∷ row 3 3 (0x04000000 ∷ 0x05000000 ∷ 0x01000000 ∷ []) (Refused UNIT)
     ∷ []
 
 computed :
-    map (λ (c : Case). row (c .users) (c .roles) (c .words) (readPolicy (c .users) (c .roles) (c .words)) (metOf (c .words) 1 5)) cases ≡ cases
-unfolding readPolicy metOf
+    map (λ (c : Case). row (c .users) (c .roles) (c .words) (readPolicy (c .users) (c .roles) (c .words))) cases ≡ cases
+unfolding readPolicy
 computed = refl

@@ -15,8 +15,8 @@ use Rattle.soda.specs.Words.{opKind}
 use Rattle.soda.proofs.Bools.{by-test, same-test, and-split, and-join, lt-so, so-lt, eq-so, so-eq}
 use Rattle.policy.specs.Kinds.{EVERYONE, APART}
 use Rattle.policy.specs.Words.{kind, operand, operandOk, wordOk}
-use Rattle.policy.specs.Private.{known, leastWords, roomsOf}
-use Rattle.policy.proofs.Grammar.{Row, row1, row2, row3, row4, row5, rowOp, row-of}
+use Rattle.policy.specs.Private.{leastWords, roomsOf}
+use Rattle.policy.proofs.Grammar.{known, Row, row1, row2, row3, row4, row5, rowOp, row-of}
 
 pub one-shl : (i : ℕ) → i < 32 → (1 * 2 ^ i) % 2 ^ 32 ≡ 2 ^ i
 one-shl i h = rw one-mul (mod-eq-of-lt (pow-lt h))

@@ -3,9 +3,6 @@ pub mod Masks
 pub mod Layouts
 pub mod Grammar
 pub mod Scanning
-pub mod Stacks
-pub mod Kinded
-pub mod Ends
 pub mod Encoding
 pub mod Accepted
 pub mod Examples

@@ -1,17 +1,16 @@
--- Masks over the elements of a list: one more put below, the first n taken away, those of another mask left out.
-use mathlib.Core.Path.{_≡_, refl, sym, _∙_, ap}
-use mathlib.Core.Bool.{Bool, true, false, not, _&&_, cond}
-use mathlib.Core.List.{List, [], _∷_, _++_, map}
-use Prim.Native.Nat.{ℕ, zero, suc, _+_, _*_, _/_, _%_, _^_, _≤_}
-use native.Mathlib.Nat.{add-zero, mul-one, mul-left-comm, pow-succ', div-one, zero-div}
-use native.Mathlib.Numerals.{one-add}
+-- Masks over the elements of a list: one more put below, one behind another.
+use mathlib.Core.Path.{_≡_, sym, _∙_, ap}
+use mathlib.Core.Bool.{Bool, cond}
+use mathlib.Core.List.{List, [], _∷_, _++_}
+use Prim.Native.Nat.{ℕ, suc, _+_, _*_, _%_, _^_, _≤_}
+use native.Mathlib.Nat.{add-zero, mul-one, mul-left-comm, pow-succ'}
 use native.Mathlib.Omega.{arith}
-use lib.Bits.{bitAnd, bitOr, or-shifted, and-block}
-use lib.ListN.{length, drop}
-use lib.Pow.{shl-exact, shr-shr}
+use lib.Bits.{bitOr, or-shifted}
+use lib.ListN.{length}
+use lib.Pow.{shl-exact}
 use Rattle.soda.specs.Bits.{number}
 use Rattle.soda.proofs.Bits.{digit-lt, number-lt}
-use Rattle.policy.specs.Private.{putOf, withoutOf}
+use Rattle.policy.specs.Masks.{putOf}
 
 pub put-is : (b : Bool) (l : List Bool) → length l ≤ 31 → putOf (number l) b ≡ number (b ∷ l)
 put-is b l h =
@@ -33,30 +32,3 @@ joined l m h =
     ap (λ (n : ℕ). bitOr n (number l)) (shl-exact (length m) (length l) 32 (number-lt m) e)
     ∙ or-shifted (number m) (length l) (number l) (number-lt l)
     ∙ sym (number-append l m)
-
-digit-and : (a b : Bool) → bitAnd (cond a 1 0) (cond b 1 0) + cond (a && not b) 1 0 ≡ cond a 1 0
-digit-and true true = refl
-digit-and true false = refl
-digit-and false true = refl
-digit-and false false = refl
-
-pub taken : (n : ℕ) (l : List Bool) → number l / 2 ^ n ≡ number (drop n l)
-taken zero l = div-one (number l)
-taken (suc n) [] = zero-div (2 ^ suc n)
-taken (suc n) (b ∷ l) =
-    let e : number (b ∷ l) / 2 ^ 1 ≡ number l = omega (arith, digit-lt b) in
-    ap (λ (k : ℕ). number (b ∷ l) / 2 ^ k) (sym (one-add n)) ∙ sym (shr-shr (number (b ∷ l)) 1 n) ∙ ap (λ (k : ℕ). k / 2 ^ n) e ∙ taken n l
-
-module _ {A : Type 0} (f g : A → Bool) where
-  parts : (l : List A) → bitAnd (number (map f l)) (number (map g l)) + number (map (λ x. f x && not (g x)) l) ≡ number (map f l)
-  parts [] = refl
-  parts (x ∷ l) =
-      let p : number (map f (x ∷ l)) ≡ number (map f l) * 2 ^ 1 + cond (f x) 1 0 = omega arith in
-      let q : number (map g (x ∷ l)) ≡ number (map g l) * 2 ^ 1 + cond (g x) 1 0 = omega arith in
-      let e : bitAnd (number (map f (x ∷ l))) (number (map g (x ∷ l)))
-      ≡ bitAnd (number (map f l)) (number (map g l)) * 2 ^ 1 + bitAnd (cond (f x) 1 0) (cond (g x) 1 0) =
-      (λ i. bitAnd (p i) (q i)) ∙ and-block 1 (number (map f l)) (number (map g l)) (cond (f x) 1 0) (cond (g x) 1 0) (digit-lt (f x)) (digit-lt (g x)) in
-      omega (arith, parts l, digit-and (f x) (g x))
-
-  pub without-is : (l : List A) → withoutOf (number (map f l)) (number (map g l)) ≡ number (map (λ x. f x && not (g x)) l)
-  without-is l = omega (arith, parts l)

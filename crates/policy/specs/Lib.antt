@@ -1,9 +1,9 @@
 pub mod Codes
 pub mod Kinds
 pub mod Refusals
+pub mod Masks
 pub mod Words
 pub mod Reading
-pub mod Shapes
 pub mod Private
 -- What is proved of them.
 pub mod Accepted

@@ -1,4 +1,4 @@
--- Reading a policy (document 01: 5, then 1 to 4), and the unit terms that a user meets.
+-- Reading a policy (document 01: 5, then 1 to 4).
 use mathlib.Core.Bool.{Bool, true, false, not, _&&_, cond}
 use mathlib.Core.List.{List, [], _∷_}
 use mathlib.Core.Option.{Option, some, none}
@@ -7,13 +7,11 @@ use lib.Dec.{leb, eqb}
 use lib.ListN.{length}
 use Rattle.soda.specs.Lists.{all}
 use Rattle.soda.specs.Terms.{Term, unit, wellFormed, marks}
-use Rattle.soda.specs.Tables.{metBits}
 use Rattle.policy.specs.Codes.{ACCEPTED, WORD-COUNT, WORD, TERM, UNIT, COUNTS}
 use Rattle.policy.specs.Refusals.{Refusals, _gives_, code}
 use Rattle.policy.specs.Words.{wordOk, decode}
 use Rattle.policy.specs.declared.PolicyRead.{PolicyRead}
 use Rattle.policy.specs.declared.PolicyRead.the-variants.{Accepted, Refused}
-use Rattle.policy.specs.declared.Survey.{Survey}
 
 -- users and roles are each 1 to 16
 abbrev pub countOk : ℕ → Bool
@@ -22,6 +20,10 @@ countOk n = leb 1 n && leb n 16
 -- a policy is 1 to 31 words
 abbrev pub lengthOk : ℕ → Bool
 lengthOk n = leb 1 n && leb n 31
+
+-- none of 5, 1 and 2 applies
+abbrev pub layoutOk : ℕ → ℕ → List ℕ → Bool
+layoutOk users roles ws = (countOk users && countOk roles) && (lengthOk (length ws) && all (wordOk users roles) ws)
 
 abbrev pub isTerm : Option Term → Bool
 isTerm none = false
@@ -58,19 +60,3 @@ numberOf (Refused k) = k
 
 unfoldable pub readPolicy : ℕ → ℕ → List ℕ → PolicyRead
 readPolicy users roles ws = answer (code (refusals users roles ws)) ws
-
--- For each word that begins a unit term, whether a user who holds these roles meets it, bit i for word i. Words that are not
--- exactly one term of 1 to 31 words give 0.
-abbrev pub metIn : Option Term → ℕ → ℕ → ℕ
-metIn none u h = 0
-metIn (some φ) u h = metBits φ u h
-
-unfoldable pub metOf : List ℕ → ℕ → ℕ → ℕ
-metOf ws u h = cond (lengthOk (length ws)) (metIn (decode ws) u h) 0
-
--- What a call on a monitor asks of its policy: whether none of 5 and 1 to 4 applies, and then its unit words and those that a user meets.
-abbrev pub surveyIn : Bool → ℕ → ℕ → Survey
-surveyIn accepted units met = record { accepted = accepted; units = cond accepted units 0; met = cond accepted met 0 }
-
-unfoldable pub surveyOf : ℕ → ℕ → List ℕ → ℕ → ℕ → Survey
-surveyOf users roles ws u h = surveyIn (eqb (code (refusals users roles ws)) ACCEPTED) (unitsOf (decode ws)) (metOf ws u h)

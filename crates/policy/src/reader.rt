@@ -3,12 +3,11 @@ ghost use mathlib.Core.Path.{_≡_};
 ghost use Prim.Native.Nat.{_+_, _≤_};
 ghost use lib.ListN.{length};
 ghost use Rattle.policy.specs.Words.{first};
-ghost use Rattle.policy.specs.Private.{firstIn, overSide, besideSides};
+ghost use Rattle.policy.specs.Private.{firstIn, oneWord, overSide, besideSides};
 use super::kinds;
-use super::terms::put;
-use super::words::is_known;
 use super::words::is_leaf;
 use super::words::kind_of;
+use super::words::put;
 use super::words::sides_of;
 
 // What is read of the first term of some words: how many words it has, 0 if they begin with none; whether it is a unit term, and well
@@ -64,6 +63,13 @@ fn beside_sides(k: usize, a: First, b: First) -> First
     }
 }
 
+// A word of kind k that has no sides: a term by itself, or none.
+fn one_word(k: usize) -> First
+    ensures { λ r. ⌜ r ≡ oneWord k ⌝ }
+{
+    if is_leaf(k) { ONE_WORD } else { NO_TERM }
+}
+
 // Reads the first term of the words, a side of another: a term of one word is read without a call.
 fn side(words: &[u32]) -> First
     requires { ⌜ length (now words) ≤ 31 ⌝ }
@@ -80,19 +86,13 @@ fn side(words: &[u32]) -> First
 
 // Reads the first term of the words.
 pub(crate) fn scan(words: &[u32]) -> First
-    requires { ⌜ length (now words) ≤ 31 ⌝ }
+    requires { ⌜ (1 ≤ length (now words)) × (length (now words) ≤ 31) ⌝ }
     ensures { λ r. ⌜ r ≡ firstIn (first (now (words .entry))) ⌝ }
 {
-    if words.len() == 0 {
-        return NO_TERM;
-    }
     let k = kind_of(words[0]);
-    if !is_known(k) {
-        return NO_TERM;
-    }
     let n = sides_of(k);
     if n == 0 {
-        return ONE_WORD;
+        return one_word(k);
     }
     let a = side(&words[1..]);
     if a.words == 0 {

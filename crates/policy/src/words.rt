@@ -2,11 +2,11 @@
 ghost use mathlib.Core.Path.{_≡_};
 ghost use mathlib.Core.Bool.{_&&_};
 ghost use Prim.Native.Nat.{_≤_};
-ghost use Rattle.soda.specs.Bits.{bit};
 ghost use Rattle.soda.specs.Lists.{all};
 ghost use Rattle.policy.specs.Words.{kind, operand, sides, wordOk};
-ghost use Rattle.policy.specs.Reading.{countOk, lengthOk};
-ghost use Rattle.policy.specs.Private.{known, leaf};
+ghost use Rattle.policy.specs.Masks.{putOf};
+ghost use Rattle.policy.specs.Reading.{countOk, lengthOk, layoutOk};
+ghost use Rattle.policy.specs.Private.{leaf, roomsOf};
 use super::kinds;
 use std::num;
 
@@ -21,7 +21,7 @@ pub fn kind_of(w: u32) -> usize
 }
 
 // The operand of a word.
-pub(crate) fn operand_of(w: u32) -> u32
+pub fn operand_of(w: u32) -> u32
     ensures { λ r. ⌜ r ≡ operand w ⌝ }
 {
     w & 0xffff
@@ -34,13 +34,6 @@ pub fn sides_of(k: usize) -> u8
     if k < 10 { SIDES[k] } else { 0 }
 }
 
-// Whether k is a kind of the table.
-pub(crate) fn is_known(k: usize) -> bool
-    ensures { λ r. ⌜ r ≡ known k ⌝ }
-{
-    (kinds::EVERYONE <= k) & (k <= kinds::APART)
-}
-
 // Whether a word of kind k is a term by itself.
 pub(crate) fn is_leaf(k: usize) -> bool
     ensures { λ r. ⌜ r ≡ leaf k ⌝ }
@@ -48,11 +41,11 @@ pub(crate) fn is_leaf(k: usize) -> bool
     (kinds::EVERYONE <= k) & (k <= kinds::SET)
 }
 
-// Whether i is in a set: its bit i.
-pub(crate) fn has_bit(set: u32, i: u32) -> bool
-    ensures { λ r. ⌜ r ≡ bit i set ⌝ }
+// Bits with one more below them.
+pub fn put(bits: u32, b: bool) -> u32
+    ensures { λ r. ⌜ r ≡ putOf bits b ⌝ }
 {
-    if i < 32 { ((set >> i) & 1) == 1 } else { false }
+    (bits << 1) | b as u32
 }
 
 // Whether users and roles are each 1 to 16.
@@ -63,7 +56,7 @@ pub(crate) fn counts_ok(users: u8, roles: u8) -> bool
 }
 
 // Whether a policy may have n words.
-pub(crate) fn length_ok(n: usize) -> bool
+pub fn length_ok(n: usize) -> bool
     ensures { λ r. ⌜ r ≡ lengthOk n ⌝ }
 {
     (1 <= n) & (n <= 31)
@@ -83,14 +76,22 @@ const LEAST: [u32; 10] = [
     9 << 24,
 ];
 
-// Whether every word is in the layout and names only what is declared: of each kind that is so for the least word and some that follow.
+// How many words of each kind are in the layout and name only what is declared; they are those from the least on.
+fn rooms(users: u8, roles: u8) -> [u32; 10]
+    requires { ⌜ users ≤ 16 ⌝ }
+    ensures { λ r. ⌜ r ≡ roomsOf users roles ⌝ }
+{
+    // by kind: none, everyone, role, set, and those without an operand
+    [0, 1, roles as u32, (1u32 << users) - 1, 1, 1, 1, 1, 1, 1]
+}
+
+// Whether every word is in the layout and names only what is declared.
 pub(crate) fn words_ok(users: u8, roles: u8, words: &[u32]) -> bool
     requires { ⌜ users ≤ 16 ⌝ }
     ensures { λ r. ⌜ r ≡ all (wordOk users roles) (now (words .entry)) ⌝ }
 {
     let least = LEAST;
-    // by kind: none, everyone, role, set, and those without an operand
-    let room = [0, 1, roles as u32, (1u32 << users) - 1, 1, 1, 1, 1, 1, 1];
+    let room = rooms(users, roles);
     let mut i = words.len();
     while 0 < i {
         i -= 1;
@@ -104,4 +105,17 @@ pub(crate) fn words_ok(users: u8, roles: u8, words: &[u32]) -> bool
         }
     }
     true
+}
+
+// Whether none of 5, 1 and 2 applies.
+pub fn in_layout(users: u8, roles: u8, words: &[u32]) -> bool
+    ensures { λ r. ⌜ r ≡ layoutOk users roles (now (words .entry)) ⌝ }
+{
+    if !counts_ok(users, roles) {
+        return false;
+    }
+    if !length_ok(words.len()) {
+        return false;
+    }
+    words_ok(users, roles, words)
 }

@@ -14,8 +14,8 @@ use Rattle.soda.specs.Lists.{all}
 use Rattle.soda.specs.Terms.{Term, size}
 use Rattle.soda.proofs.Bools.{and-split, so-lt}
 use Rattle.soda.proofs.Bits.{bit-number}
-use Rattle.policy.specs.Shapes.{rightSides}
-use Rattle.policy.specs.declared.Shape.{Shape}
+use Rattle.shape.specs.Shapes.{rightSides}
+use Rattle.shape.specs.declared.Shape.{Shape}
 use Rattle.workspace.specs.Workspace.{range, select, judged, rowOf, column, tableOf, filled, WordIsRow, BitIsJudged}
 use Rattle.workspace.specs.Private.{Masked, Ascending, Listing, Operators, Coded, Suited, Cleared, RowsStand, Shaped}
 use Rattle.soda.specs.declared.Action.{Action}

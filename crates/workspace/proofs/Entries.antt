@@ -19,7 +19,7 @@ use Rattle.soda.specs.Tables.{acts}
 use Rattle.soda.proofs.Bools.{same-test, eq-so, so-eq}
 use Rattle.soda.proofs.Bits.{number-lt, bit-number, bit-of-zero}
 use Rattle.soda.proofs.Splits.{any-append}
-use Rattle.policy.specs.Shapes.{rightSides}
+use Rattle.shape.specs.Shapes.{rightSides}
 use Rattle.workspace.specs.Workspace.{range, select, judged, rowOf}
 use Rattle.workspace.specs.Private.{place, Unpacked, noteOf, metIn, twinIn, usersIn, turnedRow, satisfiedIn, possibleIn, leftAt, rightAt, noteAt, Next, AlikePlaces, Twin, Suited, Acting, Noted, RowIs, RowOf, Entry, Known, StoredIs, StoredOf, Cleared, Entered, Added, AddedAll, Written, RowsStand}
 use Rattle.soda.specs.declared.Action.{Action}

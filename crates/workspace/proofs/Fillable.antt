@@ -15,8 +15,8 @@ use Rattle.soda.proofs.Terms.{size-pos}
 use Rattle.policy.specs.Words.{decode, termOf}
 use Rattle.policy.specs.Reading.{lengthOk}
 use Rattle.policy.specs.Accepted.{IsPolicy}
-use Rattle.policy.specs.Shapes.{rightSides, blankShape, termShape, shapeIn, shapeOf}
-use Rattle.policy.specs.declared.Shape.{Shape}
+use Rattle.shape.specs.Shapes.{rightSides, blankShape, termShape, shapeIn, shapeOf}
+use Rattle.shape.specs.declared.Shape.{Shape}
 use Rattle.policy.proofs.Accepted.{policy-in-layout, decode-is-term}
 use Rattle.workspace.specs.Workspace.{isFillable, filled, fillOf, PolicyIsFilled}
 use Rattle.workspace.specs.Private.{Shaped}

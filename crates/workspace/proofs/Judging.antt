@@ -17,7 +17,7 @@ use Rattle.soda.proofs.Bits.{bit-of-zero}
 use Rattle.soda.proofs.Terms.{stands-here, bit-standing, bit-marks-past, size-pos}
 use Rattle.soda.proofs.Tables.{empty-set}
 use Rattle.soda.proofs.Parts.{part-is-possible, satisfied-is-possible}
-use Rattle.policy.specs.Shapes.{isPlus, isOp, rightSides}
+use Rattle.shape.specs.Shapes.{isPlus, isOp, rightSides}
 use Rattle.workspace.specs.Workspace.{select, judged}
 use Rattle.workspace.specs.Private.{place, Packed, usersIn, leftAt, noteAt, Part, Joined, matchedApart, jointly, Chance, based, bySides, Finished, Suited, RowIs, SidesAt}
 use Rattle.soda.specs.declared.Action.{Action}

@@ -10,8 +10,8 @@ use Rattle.soda.specs.Bits.{bit}
 use Rattle.soda.specs.Lists.{all}
 use Rattle.soda.specs.Terms.{Term, together, apart, wellFormed, size, termAt}
 use Rattle.soda.specs.Tables.{acts}
-use Rattle.policy.specs.Shapes.{isOp, rightSides, termShape}
-use Rattle.policy.specs.declared.Shape.{Shape}
+use Rattle.shape.specs.Shapes.{isOp, rightSides, termShape}
+use Rattle.shape.specs.declared.Shape.{Shape}
 use Rattle.workspace.specs.Workspace.{select, judged, rowOf}
 use Rattle.soda.specs.declared.Action.{Action}
 use Rattle.workspace.specs.declared.masks.Masks.{Masks}

@@ -48,7 +48,7 @@ pub fn fill(words: &[u32], actions: [Action; 12], taken: u8, workspace: &mut [u3
     if workspace.len() < 8192 {
         return;
     }
-    let shape = policy::shape_of(words);
+    let shape = shape::shape_of(words);
     if shape.words == 0 {
         return;
     }

@@ -3,7 +3,7 @@ ghost use mathlib.Core.Path.{_≡_};
 ghost use Prim.Native.Nat.{ℕ, _+_, _≤_, _<_};
 ghost use Rattle.soda.specs.Bits.{bit};
 ghost use Rattle.workspace.specs.Private.{turnedRow, satisfiedIn, possibleIn, Packed, Masked};
-use policy::Shape;
+use shape::Shape;
 
 // The words that go by each row of the table, in both columns; first is the row of the empty set.
 pub(crate) struct Masks {

@@ -11,7 +11,7 @@ use super::masks::Masks;
 use super::masks::masks_of;
 use super::rows::operators;
 use super::tables::fill_tables;
-use policy::Shape;
+use shape::Shape;
 use soda::Action;
 
 // Zero in the first 8,192 words.

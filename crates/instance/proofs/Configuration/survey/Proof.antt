@@ -2,7 +2,7 @@
 use Prim.Native.Nat.{_≤_}
 use native.Mathlib.Omega.{arith}
 use borrow.Author.Needs.{needs}
-use Rattle.policy.specs.Reading.{surveyOf}
+use Rattle.units.specs.Units.{surveyOf}
 use Rattle.policy.proofs.Scanning.{counts-most}
 use Rattle.instance.proofs.Results.{failed, passed}
 use Rattle.instance.proofs.Configuration.survey.Statement.{statement}

@@ -10,7 +10,8 @@ use lib.ListN.{length}
 use lib.Seq.{length-take-le}
 use Rattle.policy.specs.Refusals.{code}
 use Rattle.policy.specs.Words.{decode}
-use Rattle.policy.specs.Reading.{refusals, unitsOf, metOf}
+use Rattle.policy.specs.Reading.{refusals, unitsOf}
+use Rattle.units.specs.Units.{metOf}
 use Rattle.instance.specs.declared.Configuration.{Configuration}
 use Rattle.instance.specs.declared.Instance.{Instance}
 use Rattle.instance.specs.Configurations.{held}

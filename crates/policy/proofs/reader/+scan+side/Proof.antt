@@ -6,7 +6,6 @@ use Prim.Native.Nat.{ℕ, _+_, _*_, _<_, _≤_}
 use native.Mathlib.Omega.{arith}
 use lib.ListN.{length}
 use borrow.Author.Needs.{needs}
-use borrow.Author.Tests.{not-true, not-false}
 use borrow.Fn.Kinds.{In}
 use borrow.Fn.PlainCycle.{Measures, is, falls, and}
 use Rattle.soda.proofs.Lists.{from-length}
@@ -14,7 +13,7 @@ use Rattle.soda.specs.Lists.{from}
 use Rattle.policy.specs.Words.{first}
 use Rattle.policy.specs.Private.{firstIn}
 use Rattle.policy.specs.declared.reader.First.{First}
-use Rattle.policy.proofs.Scanning.{Word, word-known, word-leaf, word-unknown, no-words, first-within, scan-leaf, scan-missing, scan-one, scan-missing-second, scan-two}
+use Rattle.policy.proofs.Scanning.{Word, word-sided, word-leaf, no-words, first-within, scan-single, scan-leaf, scan-missing, scan-one, scan-missing-second, scan-two}
 use Rattle.policy.proofs.reader.scan.Reads as scan
 use Rattle.policy.proofs.reader.scan.Kinds as scan-kinds
 use Rattle.policy.proofs.reader.+scan+side.Lts-scan as lts
@@ -24,7 +23,7 @@ use Rattle.policy.proofs.reader.+scan+side.Lts-side as side-lts
 use Rattle.policy.proofs.words.is_leaf.Reads as is-leaf
 use Rattle.policy.proofs.reader.over_side.Reads as over-side
 use Rattle.policy.proofs.reader.beside_sides.Reads as beside-sides
-use Rattle.policy.proofs.words.is_known.Reads as is-known
+use Rattle.policy.proofs.reader.one_word.Reads as one-word
 use Rattle.policy.proofs.words.kind_of.Reads as kind-of
 use Rattle.policy.proofs.words.sides_of.Reads as sides-of
 use Rattle.policy.proofs.reader.+scan+side.{statement}
@@ -45,10 +44,10 @@ module _ (t : ℕ) where
   calls = (
     kind-of.Asked,
     kind-of.Learnt,
-    is-known.Asked,
-    is-known.Learnt,
     sides-of.Asked,
     sides-of.Learnt,
+    one-word.Asked,
+    one-word.Learnt,
     and 1 side-kinds.ps (falls 1 side-kinds.ps _<_ μ-side t) side.Pre,
     side.Post,
     over-side.Asked,
@@ -57,94 +56,80 @@ module _ (t : ℕ) where
     beside-sides.Learnt,
   )
 
-  returns : lts.Need-returns calls at scan.Post
-  returns c =
-      let a = c .before .before .args in
-      sym (ap (λ (ws : List ℕ). firstIn (first ws)) (no-words (a .words .now) (c .if1 .taken)))
-
   -- where the first word's kind is read, and the start
-  abbrev some : lts.After-kind-of calls at scan.Post → lts.Else1 calls at scan.Post
-  some c = c .before .before
-
-  abbrev given : lts.After-kind-of calls at scan.Post → lts.Start calls at scan.Post
-  given c = some c .before .before
-
-  returns-2 : lts.Need-returns-2 calls at scan.Post
-  returns-2 c =
-      let r = c .before .before in
-      let k = r .kind-of in
-      sym (ap firstIn (word-unknown (given r .args .words .now) (k .result) (some r .if1 .left) (k .ensures)
-      (sym (c .before .is-known .ensures) ∙ not-true (c .before .is-known .result) (c .if2 .taken))))
-
   abbrev read : lts.After-sides-of calls at scan.Post → lts.After-kind-of calls at scan.Post
-  read c = c .before .before .before
+  read c = c .before
 
   abbrev start : lts.After-sides-of calls at scan.Post → lts.Start calls at scan.Post
-  start c = given (read c)
+  start c = read c .before .before .before
+
+  returns : lts.Need-returns calls at scan.Post
+  returns c =
+      let r = c .before .before in
+      let k = read r .kind-of in
+      c .one-word .ensures
+      ∙ scan-single (start r .args .words .now) (k .result) (start r .pre .1 .0) (k .ensures) (sym (r .sides-of .ensures) ∙ c .before .if1 .taken)
 
   -- the first word's kind and sides
-  word : (c : lts.After-sides-of calls at scan.Post) → Word (start c .args .words .now) (read c .kind-of .result) (c .sides-of .result)
+  word : (c : lts.Else1 calls at scan.Post) → let r = c .before in Word (start r .args .words .now) (read r .kind-of .result) (r .sides-of .result)
   word c =
-      let k = read c .kind-of in
-      let b = c .before .before .is-known in
-      word-known (start c .args .words .now) (k .result) (c .sides-of .result) (some (read c) .if1 .left) (k .ensures)
-      (sym (b .ensures) ∙ not-false (b .result) (c .before .if2 .left)) (c .sides-of .ensures)
-
-  returns-3 : lts.Need-returns-3 calls at scan.Post
-  returns-3 c = scan-leaf (start (c .before) .args .words .now) (word (c .before)) (c .if3 .taken)
+      let r = c .before in
+      let k = read r .kind-of in
+      word-sided (start r .args .words .now) (k .result) (r .sides-of .result) (start r .pre .1 .0) (k .ensures) (r .sides-of .ensures) (c .if1 .left)
 
   side-requires : lts.Need-side-requires calls at scan.Post
   side-requires c κs =
-      let w = c .before .before in
-      let l = from-length 1 (start w .args .words .now) in
-      (omega (arith, word w .inside, start w .pre .0), omega (arith, start w .pre .1))
+      let s = start (c .before .before) in
+      let l = from-length 1 (s .args .words .now) in
+      (omega (arith, s .pre .0, s .pre .1), omega (arith, s .pre .1))
 
-  abbrev known : lts.After-side calls at scan.Post → lts.After-sides-of calls at scan.Post
-  known c = c .before .before .before
+  abbrev known : lts.After-side calls at scan.Post → lts.Else1 calls at scan.Post
+  known c = c .before .before
 
   abbrev whole : lts.After-side calls at scan.Post → List ℕ
-  whole c = start (known c) .args .words .now
+  whole c = start (known c .before) .args .words .now
 
-  returns-4 : lts.Need-returns-4 calls at scan.Post
-  returns-4 c =
+  returns-2 : lts.Need-returns-2 calls at scan.Post
+  returns-2 c =
       let e = c .before .before in
-      scan-missing (whole e) (word (known e)) (e .before .before .if3 .left) (sym (ap (λ (f : First). f .words) (e .side .ensures)) ∙ c .if4 .taken)
+      scan-missing (whole e) (word (known e)) (known e .if1 .left) (sym (ap (λ (f : First). f .words) (e .side .ensures)) ∙ c .if2 .taken)
 
   -- how long the first side may be
   within : (c : lts.After-side calls at scan.Post) → (1 + c .side .result .words ≤ length (whole c)) × (length (whole c) ≤ 31)
   within c =
       let ws : List ℕ = whole c in
-      (omega (arith, word (known c) .inside, from-length 1 ws, first-within (from 1 ws), ap (λ (f : First). f .words) (c .side .ensures)), start (known c) .pre .1)
+      let p = start (known c .before) .pre .1 in
+      (omega (arith, p, from-length 1 ws, first-within (from 1 ws), ap (λ (f : First). f .words) (c .side .ensures)), p .1)
 
   -- the first side is there
-  abbrev first-side : lts.Else4 calls at scan.Post → lts.After-side calls at scan.Post
+  abbrev first-side : lts.Else2 calls at scan.Post → lts.After-side calls at scan.Post
   first-side c = c .before .before
 
-  returns-5 : lts.Need-returns-5 calls at scan.Post
-  returns-5 c =
+  returns-3 : lts.Need-returns-3 calls at scan.Post
+  returns-3 c =
       let f = c .before .before in
       let e = first-side f in
       c .over-side .ensures
-      ∙ scan-one (whole e) (word (known e)) (e .side .result) (e .side .ensures) (f .if4 .left) (c .before .if5 .taken) (omega (arith, within e))
+      ∙ scan-one (whole e) (word (known e)) (e .side .result) (e .side .ensures) (f .if2 .left) (c .before .if3 .taken) (omega (arith, within e))
 
   side-requires-2 : lts.Need-side-requires-2 calls at scan.Post
   side-requires-2 c κs =
       let e = first-side (c .before .before .before) in
-      let s = start (known e) in
+      let s = start (known e .before) in
       let l = from-length (1 + e .side .result .words) (s .args .words .now) in
-      (omega (arith, word (known e) .inside, s .pre .0), omega (arith, s .pre .1))
+      (omega (arith, s .pre .0, s .pre .1), omega (arith, s .pre .1))
 
   -- where the second side is read
-  abbrev parted : lts.After-side2 calls at scan.Post → lts.Else5 calls at scan.Post
+  abbrev parted : lts.After-side2 calls at scan.Post → lts.Else3 calls at scan.Post
   parted c = c .before .before .before
 
-  returns-6 : lts.Need-returns-6 calls at scan.Post
-  returns-6 c =
+  returns-4 : lts.Need-returns-4 calls at scan.Post
+  returns-4 c =
       let d = c .before .before in
       let g = parted d in
       let e = first-side (g .before) in
-      scan-missing-second (whole e) (word (known e)) (e .side .result) (e .side .ensures) (g .before .if4 .left)
-      (e .before .before .if3 .left) (g .if5 .left) (sym (ap (λ (f : First). f .words) (d .side2 .ensures)) ∙ c .if6 .taken)
+      scan-missing-second (whole e) (word (known e)) (e .side .result) (e .side .ensures) (g .before .if2 .left)
+      (known e .if1 .left) (g .if3 .left) (sym (ap (λ (f : First). f .words) (d .side2 .ensures)) ∙ c .if4 .taken)
 
   -- how long both sides may be
   within-2 : (c : lts.After-side2 calls at scan.Post) → first-side (parted c .before) .side .result .words + c .side2 .result .words ≤ 30
@@ -159,15 +144,15 @@ module _ (t : ℕ) where
         ap (λ (f : First). f .words) (c .side2 .ensures),
       )
 
-  returns-7 : lts.Need-returns-7 calls at scan.Post
-  returns-7 c =
+  returns-5 : lts.Need-returns-5 calls at scan.Post
+  returns-5 c =
       let f = c .before in
       let d = f .before .before in
       let g = parted d in
       let e = first-side (g .before) in
       c .beside-sides .ensures
-      ∙ scan-two (whole e) (word (known e)) (e .side .result) (e .side .ensures) (g .before .if4 .left)
-      (e .before .before .if3 .left) (g .if5 .left) (d .side2 .result) (d .side2 .ensures) (f .if6 .left) (omega (arith, within-2 d))
+      ∙ scan-two (whole e) (word (known e)) (e .side .result) (e .side .ensures) (g .before .if2 .left)
+      (known e .if1 .left) (g .if3 .left) (d .side2 .result) (d .side2 .ensures) (f .if4 .left) (omega (arith, within-2 d))
 
 -- ── a side ──
 module _ (t : ℕ) where
@@ -203,33 +188,34 @@ module _ (t : ℕ) where
       scan-leaf ws (word-leaf ws (r .kind-of .result) (side-some r .if1 .left) (r .kind-of .ensures) (sym (c .before .is-leaf .ensures) ∙ c .if2 .taken)) refl
 
   scan-requires : side-lts.Need-scan-requires side-calls side-at side.Post
-  scan-requires c κs = let s = side-given (c .before .before) in (omega (arith, s .pre .0), s .pre .1)
+  scan-requires c κs =
+      let r = c .before .before in
+      let s = side-given r in
+      (omega (arith, s .pre .0), (omega (arith, side-some r .if1 .left), s .pre .1))
 
 pub +scan+side-spec : {M : Type 1} → statement M
 +scan+side-spec = close μ μ-side (λ t. lts.spec (calls t) (at t) scan.Post
+    (λ c. omega (arith, c .before .before .pre .1))
+    (λ c κs. search needs)
+    (λ c κs. search needs)
+    (λ c κs. search needs)
     (returns t)
-    (λ c. search needs)
-    (λ c κs. search needs)
-    (λ c κs. search needs)
-    (returns-2 t)
-    (λ c κs. search needs)
-    (returns-3 t)
-    (λ c. search needs)
-    (λ c. search needs)
-    (λ c. search needs)
+    (λ c. omega (arith, start t (c .before) .pre .1))
+    (λ c. omega (arith, start t (c .before) .pre .1))
+    (λ c. omega (arith, start t (c .before) .pre .1))
     (side-requires t)
-    (returns-4 t)
+    (returns-2 t)
     (λ c κs. omega (arith, within t (first-side t (c .before))))
-    (returns-5 t)
+    (returns-3 t)
     (λ c. omega (arith, within t (first-side t (c .before .before))))
     (λ c. omega (arith, within t (first-side t (c .before .before))))
     (λ c. within t (first-side t (c .before .before)) .0)
     (λ c. within t (first-side t (c .before .before)) .0)
     (λ c. search needs)
     (side-requires-2 t)
-    (returns-6 t)
+    (returns-4 t)
     (λ c κs. within-2 t (c .before .before))
-    (returns-7 t))
+    (returns-5 t))
     λ t. side-lts.spec (side-calls t) (side-at t) side.Post
     (side-returns t)
     (λ c. search needs)

@@ -2,7 +2,6 @@
 use mathlib.Core.Path.{_≡_, refl, sym, _∙_, ap}
 use mathlib.Core.Bool.{true, So, _&&_, cond}
 use mathlib.Core.Option.{Option, some, none}
-use Prim.Native.Nat.{_≤_}
 use native.Mathlib.Omega.{arith}
 use lib.ListN.{length}
 use lib.Dec.{eqb}
@@ -71,8 +70,8 @@ late : (c : tie.Else3) → let a = given c .args in
     readPolicy (a .users) (a .roles) (a .words .now) ≡ answer (code (lastRefusals (decode (a .words .now)))) (a .words .now)
 late c = let a = given c .args in last-two (a .users) (a .roles) (a .words .now) (in-layout c)
 
-short : (c : tie.Else3) → length (given c .args .words .now) ≤ 31
-short c = length-range (length (given c .args .words .now)) (is-long (long c)) .1
+scan-requires : tie.Need-scan-requires
+scan-requires c κs = length-range (length (given c .args .words .now)) (is-long (long c))
 
 -- the one term that the words are, if the first term has all of them
 is-first : (c : tie.After-scan) → let ws = given (c .before) .args .words .now in
@@ -131,7 +130,7 @@ read-spec =
     returns-2
     words-ok-requires
     returns-3
-    (λ c κs. short c)
+    scan-requires
     returns-4
     returns-5
     returns-6)

@@ -2,12 +2,11 @@
 use mathlib.Core.Path.{_≡_, sym, _∙_, ap}
 use mathlib.Core.Bool.{Bool, true, false, _&&_, and-false}
 use mathlib.Core.List.{List, [], _∷_}
-use Prim.Native.Nat.{ℕ, zero, suc, _+_, _-_, _*_, _%_, _^_, _≤_, _<_}
+use Prim.Native.Nat.{ℕ, zero, suc, _+_, _-_, _%_, _^_, _≤_, _<_}
 use native.Mathlib.Numerals.{one-add}
 use native.Mathlib.Omega.{arith}
 use lib.Dec.{ltb}
 use lib.ListN.{length, getD, drop}
-use lib.Pow.{pow-pos}
 use lib.Seq.{drop-cons, drop-length}
 use borrow.Author.Needs.{needs}
 use borrow.Author.Tests.{lt-ltb, le-ltb}
@@ -16,7 +15,7 @@ use Rattle.soda.proofs.Bools.{and-join}
 use Rattle.policy.specs.Words.{kind, wordOk}
 use Rattle.policy.specs.Private.{leastWords, roomsOf}
 use Rattle.policy.proofs.Grammar.{past-nine}
-use Rattle.policy.proofs.Layouts.{one-shl, no-kind, in-room}
+use Rattle.policy.proofs.Layouts.{no-kind, in-room}
 use Rattle.policy.proofs.words.words_ok.Statement.{statement}
 use Rattle.policy.proofs.words.words_ok.Tie as tie
 
@@ -32,18 +31,15 @@ fails f [] j h e = absurd (omega arith)
 fails f (x ∷ l) zero h e = rw e
 fails f (x ∷ l) (suc j) h e = ap (λ (b : Bool). f x && b) (fails f l j (omega arith) e) ∙ and-false (f x)
 
-sub-t13 : tie.Need-sub-t13 Inv-loop μ-loop
-sub-t13 c = let s = c .before in rw (one-shl (s .args .users) (omega (arith, s .pre))) (pow-pos (s .args .users))
-
 loop-holds : tie.Need-loop-holds Inv-loop μ-loop
-loop-holds c = let s = c .before in (omega arith, ap (all (wordOk (s .args .users) (s .args .roles))) (drop-length (s .args .words .now)))
+loop-holds c = let s = c .before .before in (omega arith, ap (all (wordOk (s .args .users) (s .args .roles))) (drop-length (s .args .words .now)))
 
 -- the loop's place, and the start
 abbrev place : tie.After-kind-of Inv-loop μ-loop → tie.At-loop Inv-loop μ-loop
 place c = c .before .before .before
 
 abbrev start : tie.At-loop Inv-loop μ-loop → tie.Start Inv-loop μ-loop
-start c = c .before .before
+start c = c .before .before .before
 
 -- the word before i, and whether it is in the layout
 abbrev word : tie.After-kind-of Inv-loop μ-loop → ℕ
@@ -62,16 +58,14 @@ returns c =
 
 -- the word is in the layout where it is in the room from the least word of its kind on
 in-layout : (c : tie.After-wrapping-sub-u32 Inv-loop μ-loop) → let e = c .before .before in
-    let a = start (place e) .args in
-    ltb (c .wrapping-sub-u32 .result) (getD (0 ∷ 1 ∷ a .roles ∷ ((1 * 2 ^ a .users) % 2 ^ 32 - 1) ∷ 1 ∷ 1 ∷ 1 ∷ 1 ∷ 1 ∷ 1 ∷ []) (e .kind-of .result) 0)
-    ≡ ok (place e) (word e)
+    ltb (c .wrapping-sub-u32 .result) (getD (place e .before .rooms .result) (e .kind-of .result) 0) ≡ ok (place e) (word e)
 in-layout c =
     let e = c .before .before in
     let s = start (place e) in
     let a = s .args in
     let r = c .wrapping-sub-u32 .result in
     let k = e .kind-of .ensures in
-    ap (λ (n : ℕ). ltb r (getD (0 ∷ 1 ∷ a .roles ∷ (n - 1) ∷ 1 ∷ 1 ∷ 1 ∷ 1 ∷ 1 ∷ 1 ∷ []) (e .kind-of .result) 0)) (one-shl (a .users) (omega (arith, s .pre)))
+    ap (λ (l : List ℕ). ltb r (getD l (e .kind-of .result) 0)) (place e .before .rooms .ensures)
     ∙ ap (λ (k : ℕ). ltb r (getD (roomsOf (a .users) (a .roles)) k 0)) k
     ∙ in-room (a .users) (a .roles) (s .pre) (omega (arith, s .fits .roles .fits)) (word e) r (c .wrapping-sub-u32 .ok)
     (omega (arith, c .before .if1 .left)) (ap (λ (k : ℕ). (r + getD leastWords k 0) % 2 ^ 32) (sym k) ∙ c .wrapping-sub-u32 .ensures)
@@ -105,8 +99,7 @@ words-ok-spec =
     (tie.spec
     Inv-loop
     μ-loop
-    (λ c. search needs)
-    sub-t13
+    (λ c κs. c .before .pre)
     loop-holds
     (λ c. search needs)
     (λ c. search needs)

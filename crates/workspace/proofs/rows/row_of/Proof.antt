@@ -9,7 +9,7 @@ use lib.Bits.{bitAnd}
 use Rattle.soda.specs.Bits.{bit}
 use Rattle.workspace.specs.Workspace.{select}
 use lib.ListN.{length}
-use Rattle.policy.specs.Shapes.{rightSides}
+use Rattle.shape.specs.Shapes.{rightSides}
 use Rattle.workspace.specs.Private.{Next, Listing, RowIs}
 use Rattle.workspace.proofs.Subterms.{rights-length, ascending}
 use Rattle.workspace.proofs.Digits.{bit-or}

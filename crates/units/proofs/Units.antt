@@ -1,0 +1,50 @@
+-- The words that begin unit terms: a term has one, so that a mask without any says that there is no well-formed term.
+use mathlib.Core.Path.{_≡_, refl, ap}
+use mathlib.Core.Bool.{Bool, true, false, _&&_, cond}
+use mathlib.Core.List.{List, map, map-append}
+use mathlib.Core.Option.{Option, some, none}
+use Prim.Native.Nat.{ℕ}
+use native.Mathlib.Omega.{arith}
+use lib.ListN.{length}
+use Rattle.soda.specs.Bits.{number}
+use Rattle.soda.specs.Terms.{Term, everyone, role, set, ¬ᵗ_, _⁺, bin, unit, wellFormed, subterms, marks}
+use Rattle.soda.proofs.Bools.{by-test}
+use Rattle.policy.specs.Words.{decode}
+use Rattle.policy.specs.Reading.{lengthOk, isFormed, unitsOf}
+use Rattle.policy.proofs.Masks.{number-append}
+use Rattle.units.specs.Units.{unitWords, SomeUnit, OneTerm, ZeroIsNoTerm, ElseOneTerm}
+
+pub some-unit : SomeUnit
+some-unit everyone = omega arith
+some-unit (role r) = omega arith
+some-unit (set m) = omega arith
+some-unit (¬ᵗ φ) = omega (arith, some-unit φ)
+some-unit (φ ⁺) = omega (arith, some-unit φ)
+some-unit (bin op φ ψ) =
+    omega (
+      arith,
+      some-unit φ,
+      ap number (map-append unit (subterms φ) (subterms ψ)),
+      number-append (map unit (subterms φ)) (map unit (subterms ψ)),
+    )
+
+-- the mask of a term's words
+units-are : (ws : List ℕ) (φ : Term) → OneTerm ws φ → unitWords ws ≡ marks unit φ
+unfolding unitWords
+units-are ws φ o = rw (o .long, o .is, o .formed)
+
+pub zero-is-no-term : ZeroIsNoTerm
+zero-is-no-term ws e φ o = omega (arith, e, units-are ws φ o, some-unit φ)
+
+pub else-one-term : ElseOneTerm
+unfolding unitWords
+else-one-term ws n = go (lengthOk (length ws)) (decode ws) refl refl n
+  where
+    given : (φ : Term) → OneTerm ws φ → (φ : Term) × OneTerm ws φ × (unitWords ws ≡ marks unit φ)
+    given φ o = (φ, o, units-are ws φ o)
+
+    go : (b : Bool) (x : Option Term) → lengthOk (length ws) ≡ b → decode ws ≡ x → (cond (b && isFormed x) (unitsOf x) 0 ≡ 0 → ⊥)
+        → (φ : Term) × OneTerm ws φ × (unitWords ws ≡ marks unit φ)
+    go false x l d n = absurd (n refl)
+    go true none l d n = absurd (n refl)
+    go true (some φ) l d n = given φ (record { long = l; is = d; formed = by-test (wellFormed φ) (λ f. f) (λ f. absurd (n (rw f))) })
