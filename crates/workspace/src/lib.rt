@@ -52,5 +52,5 @@ pub fn fill(words: &[u32], actions: [Action; 12], taken: u8, workspace: &mut [u3
     if shape.words == 0 {
         return;
     }
-    fill_by(shape, actions, taken, workspace);
+    fill_by(shape, actions, taken, workspace)
 }

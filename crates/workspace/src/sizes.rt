@@ -26,22 +26,13 @@ fn clear(workspace: &mut [u32])
     }
 }
 
-// With a place for every set of four actions.
-fn fill_four(m: Masks, ops: &[u16], actions: [Action; 12], taken: u8, workspace: &mut [u32])
-    requires { ⌜ (taken ≤ 4) × (all (λ a. ltb (a .user) 16) (take taken actions) ≡ true) × Coded (now ops) × (8192 ≤ length (now workspace)) ⌝ }
-    ensures { λ _. ⌜ RowsStand m (now (ops .entry)) actions (2 ^ taken) (now (workspace .entry)) (now (workspace .exit)) ⌝ }
-{
-    let mut sets = [0u64; 48];
-    fill_tables(m, ops, actions, taken, &mut sets, workspace);
-}
-
-// The same of eight actions.
+// With a place for every set of eight actions.
 fn fill_eight(m: Masks, ops: &[u16], actions: [Action; 12], taken: u8, workspace: &mut [u32])
     requires { ⌜ (taken ≤ 8) × (all (λ a. ltb (a .user) 16) (take taken actions) ≡ true) × Coded (now ops) × (8192 ≤ length (now workspace)) ⌝ }
     ensures { λ _. ⌜ RowsStand m (now (ops .entry)) actions (2 ^ taken) (now (workspace .entry)) (now (workspace .exit)) ⌝ }
 {
     let mut sets = [0u64; 768];
-    fill_tables(m, ops, actions, taken, &mut sets, workspace);
+    fill_tables(m, ops, actions, taken, &mut sets, workspace)
 }
 
 // The same of twelve actions.
@@ -50,7 +41,7 @@ fn fill_twelve(m: Masks, ops: &[u16], actions: [Action; 12], taken: u8, workspac
     ensures { λ _. ⌜ RowsStand m (now (ops .entry)) actions (2 ^ taken) (now (workspace .entry)) (now (workspace .exit)) ⌝ }
 {
     let mut sets = [0u64; 12288];
-    fill_tables(m, ops, actions, taken, &mut sets, workspace);
+    fill_tables(m, ops, actions, taken, &mut sets, workspace)
 }
 
 // Enters all sets of the first taken actions, with a table not much larger than they need: zeroing one for twelve actions takes
@@ -62,18 +53,16 @@ fn fill_sets(m: Masks, ops: &[u16], actions: [Action; 12], taken: u8, workspace:
     ensures { λ _. ⌜ RowsStand m (now (ops .entry)) actions (2 ^ taken) (now (workspace .entry)) (now (workspace .exit)) ⌝ }
 {
     if 31 < ops.len() {
-        fill_sets(m, &ops[..31], actions, taken, workspace);
-        return;
+        return fill_sets(m, ops, actions, 0, workspace);
     }
     if taken <= 4 {
-        fill_four(m, ops, actions, taken, workspace);
-        return;
+        let mut sets = [0u64; 48];
+        return fill_tables(m, ops, actions, taken, &mut sets, workspace);
     }
     if taken <= 8 {
-        fill_eight(m, ops, actions, taken, workspace);
-        return;
+        return fill_eight(m, ops, actions, taken, workspace);
     }
-    fill_twelve(m, ops, actions, taken, workspace);
+    fill_twelve(m, ops, actions, taken, workspace)
 }
 
 // Fills the workspace for the first taken actions, by the policy's shape.
@@ -87,5 +76,5 @@ pub(crate) fn fill_by(shape: Shape, actions: [Action; 12], taken: u8, workspace:
     let words = shape.words as usize;
     let mut ops = [0u16; 31];
     let count = operators(m.either, m.both, &sides[..words], &mut ops);
-    fill_sets(m, &ops[..count], actions, taken, workspace);
+    fill_sets(m, &ops[..count], actions, taken, workspace)
 }

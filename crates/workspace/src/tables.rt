@@ -136,5 +136,5 @@ pub(crate) fn fill_tables(
     ensures { λ _. ⌜ RowsStand m (now (ops .entry)) actions (2 ^ taken) (now (workspace .entry)) (now (workspace .exit)) ⌝ }
 {
     add_all(m, ops, actions, taken, sets);
-    write_rows(sets, 1 << taken, workspace);
+    write_rows(sets, 1 << taken, workspace)
 }

@@ -5,12 +5,13 @@ use lib.ListN.{length}
 use borrow.Author.Needs.{needs}
 use borrow.Fn.Kinds.{In}
 use borrow.Fn.PlainCycle.{Measures, is, falls, and}
+use Rattle.workspace.proofs.Entries.{long-blank}
 use Rattle.workspace.proofs.sizes.fill_sets.Reads as fill-sets
 use Rattle.workspace.proofs.sizes.fill_sets.Kinds as kinds
 use Rattle.workspace.proofs.sizes.+fill_sets.Lts-fill_sets as lts
-use Rattle.workspace.proofs.sizes.fill_four.Reads as fill-four
 use Rattle.workspace.proofs.sizes.fill_eight.Reads as fill-eight
 use Rattle.workspace.proofs.sizes.fill_twelve.Reads as fill-twelve
+use Rattle.workspace.proofs.tables.fill_tables.Reads as fill-tables
 use Rattle.workspace.proofs.sizes.+fill_sets.{statement}
 use Rattle.workspace.proofs.sizes.+fill_sets.Tie.{close}
 
@@ -26,8 +27,8 @@ module _ (t : ℕ) where
   calls = (
     and 2 kinds.ps (falls 2 kinds.ps _<_ μ t) fill-sets.Pre,
     fill-sets.Post,
-    fill-four.Asked,
-    fill-four.Learnt,
+    fill-tables.Asked,
+    fill-tables.Learnt,
     fill-eight.Asked,
     fill-eight.Learnt,
     fill-twelve.Asked,
@@ -37,16 +38,19 @@ module _ (t : ℕ) where
   never : lts.Then1 calls at fill-sets.Post → ⊥
   never c = omega (arith, c .before .before .before .pre .1 .4, c .if1 .taken)
 
-  returns : lts.Need-returns calls at fill-sets.Post
-  returns c = let call = c .before .before .before in absurd (never (call .before .before))
+  fill-tables-requires : lts.Need-fill-tables-requires calls at fill-sets.Post
+  fill-tables-requires c κs =
+      let four = c .before .before in
+      let p = four .before .before .before .before .pre .1 in
+      (p .0, p .1, p .2, long-blank 4 (four .if2 .taken), p .3)
 
 pub +fill-sets-spec : {M : Type 1} → statement M
 +fill-sets-spec = close μ λ t. lts.spec (calls t) (at t) fill-sets.Post
+    (λ c κs. absurd (never t (c .before)))
     (λ c. search needs)
-    (λ c κs. absurd (never t (c .before .before)))
+    (λ c. absurd (never t (c .before .before .before .before)))
     (λ c. search needs)
-    (returns t)
-    (λ c κs. search needs)
+    (fill-tables-requires t)
     (λ c. search needs)
     (λ c. search needs)
     (λ c κs. search needs)
