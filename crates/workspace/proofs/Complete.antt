@@ -54,13 +54,13 @@ module _ (either both row right i word : ℕ) (h : i < 31) (is : word ≡ 429496
   module _ (k : ℕ) (l : i < k) where
     abbrev row-now : ℕ
     row-now =
-        bitOr row (bitOr (bitAnd (bitAnd either word) (bitOr (row / 2 ^ 1) (row / 2 ^ (k - i)))) (bitAnd (bitAnd both word) (bitAnd (row / 2 ^ 1) (row / 2 ^ (k - i)))))
+        bitOr row (bitAnd word (bitOr (bitAnd either (bitOr (row / 2 ^ 1) (row / 2 ^ (k - i)))) (bitAnd both (bitAnd (row / 2 ^ 1) (row / 2 ^ (k - i))))))
 
     abbrev right-now : ℕ
     right-now = bitOr right (bitAnd (row / 2 ^ (k - i)) word)
 
     row-bit : (q x y : ℕ) (b : Bool) → 1 + q ≡ x → k - i + q ≡ y → bit q word ≡ b
-        → bit q row-now ≡ (bit q row || (((bit q either && b) && (bit x row || bit y row)) || ((bit q both && b) && (bit x row && bit y row))))
+        → bit q row-now ≡ (bit q row || (b && ((bit q either && (bit x row || bit y row)) || (bit q both && (bit x row && bit y row)))))
     row-bit q x y b u v w = simp (bit-or, bit-and, bit-shr, u, v, w)
 
     right-bit : (q y : ℕ) (b : Bool) → k - i + q ≡ y → bit q word ≡ b → bit q right-now ≡ (bit q right || (bit y row && b))
@@ -68,8 +68,8 @@ module _ (either both row right i word : ℕ) (h : i < 31) (is : word ≡ 429496
 
     pub placed : Placed either both row right i k row-now right-now
     placed = record {
-      here = λ e. row-bit (place e i) (place e (1 + i)) (place e k) true (omega arith) (omega arith) (at-word e) ∙ simp and-true;
-      other = λ e j b n. row-bit (place e j) (1 + place e j) (k - i + place e j) false refl refl (off-word e j b n) ∙ simp (and-false, or-false);
+      here = λ e. row-bit (place e i) (place e (1 + i)) (place e k) true (omega arith) (omega arith) (at-word e);
+      other = λ e j b n. row-bit (place e j) (1 + place e j) (k - i + place e j) false refl refl (off-word e j b n) ∙ or-false (bit (place e j) row);
       right-here = λ e c o. right-bit (place e i) (place e k) true (omega arith) (at-word e) ∙ rw c (and-true (bit (place e k) row));
       right-other = λ e j b n. right-bit (place e j) (k - i + place e j) false refl (off-word e j b n) ∙ simp (and-false, or-false);
     }
@@ -185,7 +185,7 @@ module _ (base either both : ℕ) (places ops : List ℕ) (asc : Ascending place
   pub walk-step : (row right n word d : ℕ) → 0 < n → word ≡ 4294967297 * 2 ^ (getD ops (n - 1) 0 % 32) → d ≡ getD ops (n - 1) 0 / 32
       → Walked base either both places ops row right n
       → Walked base either both places ops
-      (bitOr row (bitOr (bitAnd (bitAnd either word) (bitOr (row / 2 ^ 1) (row / 2 ^ d))) (bitAnd (bitAnd both word) (bitAnd (row / 2 ^ 1) (row / 2 ^ d)))))
+      (bitOr row (bitAnd word (bitOr (bitAnd either (bitOr (row / 2 ^ 1) (row / 2 ^ d))) (bitAnd both (bitAnd (row / 2 ^ 1) (row / 2 ^ d))))))
       (bitOr right (bitAnd (row / 2 ^ d) word)) (n - 1)
   walk-step row right n word d h is far g =
       let m : n ≡ suc (n - 1) = omega arith in
@@ -199,7 +199,7 @@ module _ (base either both : ℕ) (places ops : List ℕ) (asc : Ascending place
       let e : k - w ≡ d = omega (arith, o .is, behind, inside, far) in
       subst
       (λ x. Walked base either both places ops
-      (bitOr row (bitOr (bitAnd (bitAnd either word) (bitOr (row / 2 ^ 1) (row / 2 ^ x))) (bitAnd (bitAnd both word) (bitAnd (row / 2 ^ 1) (row / 2 ^ x)))))
+      (bitOr row (bitAnd word (bitOr (bitAnd either (bitOr (row / 2 ^ 1) (row / 2 ^ x))) (bitAnd both (bitAnd (row / 2 ^ 1) (row / 2 ^ x))))))
       (bitOr right (bitAnd (row / 2 ^ x) word)) (n - 1))
       e
       (record {

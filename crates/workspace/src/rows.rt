@@ -63,7 +63,7 @@ fn finish(base: u64, either: u64, both: u64, ops: &[u16]) -> Row
         let word: u64 = 0x1_0000_0001 << (x & 31);
         let l = bits >> 1;
         let r = bits >> (x >> 5);
-        bits = bits | (((either & word) & (l | r)) | ((both & word) & (l & r)));
+        bits = bits | (word & ((either & (l | r)) | (both & (l & r))));
         at_right = at_right | (r & word);
     }
     Row {
