@@ -6,6 +6,7 @@ ghost use Rattle.units.specs.Units.{surveyOf};
 ghost use Rattle.instance.specs.Configurations.{held, noConfiguration, givenConfiguration, withRow, withGrant, withoutGrant, configurationOk};
 use super::Configuration;
 use super::Configured;
+use super::lists::count_ok;
 use super::lists::counts_ok;
 use super::lists::padded_rows;
 use super::lists::rows_ok;
@@ -100,11 +101,15 @@ impl Configuration {
         self.with_row(user, without_role(self.held(user), role))
     }
 
-    // Whether the counts and the rows would be accepted, and unused rows are zero.
+    // Whether the counts and the rows would be accepted, and unused rows are zero. The counts are tested one after the other: a
+    // compiler that tests both at once does not see that the users are few, and goes over the rows one by one.
     pub fn is_well_formed(self) -> bool
         ensures { λ r. ⌜ r ≡ configurationOk self ⌝ }
     {
-        if !counts_ok(self.users, self.roles) {
+        if !count_ok(self.users) {
+            return false;
+        }
+        if !count_ok(self.roles) {
             return false;
         }
         let rows = self.user_roles;

@@ -24,11 +24,18 @@ pub(crate) fn without_role(row: u16, role: u8) -> u16
     row - (row & (1 << role))
 }
 
+// Whether users or roles may be so many.
+pub(crate) fn count_ok(n: u16) -> bool
+    ensures { λ r. ⌜ r ≡ countOk n ⌝ }
+{
+    (1 <= n) & (n <= 16)
+}
+
 // Whether users and roles may be so many.
 pub(crate) fn counts_ok(users: u16, roles: u16) -> bool
     ensures { λ r. ⌜ r ≡ (countOk users && countOk roles) ⌝ }
 {
-    ((1 <= users) & (users <= 16)) & ((1 <= roles) & (roles <= 16))
+    count_ok(users) & count_ok(roles)
 }
 
 // Whether there is one row a user, and each names declared roles only.
