@@ -26,13 +26,6 @@ fn refused(code: u8) -> Configured
     }
 }
 
-// A policy that is refused.
-const NO_SURVEY: Survey = Survey {
-    accepted: false,
-    units: 0,
-    met: 0,
-};
-
 impl Configuration {
     // All zero.
     pub const BLANK: Self = Configuration {
@@ -125,7 +118,7 @@ impl Configuration {
         ensures { λ r. ⌜ r ≡ surveyOf (self .users) (self .roles) (now (words .entry)) user (held self user) ⌝ }
     {
         if !counts_ok(self.users, self.roles) {
-            return NO_SURVEY;
+            return Survey::NONE;
         }
         units::survey_of(
             self.users as u8,

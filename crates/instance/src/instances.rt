@@ -13,10 +13,13 @@ use super::lists::padded_words;
 use super::lists::zero_words;
 use soda::Action;
 
-const NOT_WELL_FORMED: Check = Check {
-    well_formed: false,
-    met: 0,
-};
+impl Check {
+    // That of an instance which is not well formed.
+    pub const FAILED: Self = Check {
+        well_formed: false,
+        met: 0,
+    };
+}
 
 // Whether an unused place is all zero.
 fn is_idle(a: Action) -> bool
@@ -144,18 +147,18 @@ impl Instance {
     {
         let words = self.words as usize;
         if 31 < words {
-            return NOT_WELL_FORMED;
+            return Check::FAILED;
         }
         let policy = self.policy;
         let survey = configuration.survey(&policy[..words], user);
         if !survey.accepted {
-            return NOT_WELL_FORMED;
+            return Check::FAILED;
         }
         if !self.is_taken_ok(configuration.users, survey.units) {
-            return NOT_WELL_FORMED;
+            return Check::FAILED;
         }
         if !self.is_tidy() {
-            return NOT_WELL_FORMED;
+            return Check::FAILED;
         }
         Check {
             well_formed: true,

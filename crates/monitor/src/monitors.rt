@@ -53,10 +53,7 @@ impl Monitor {
     {
         let configuration = self.configuration;
         if !configuration.is_well_formed() {
-            return Check {
-                well_formed: false,
-                met: 0,
-            };
+            return Check::FAILED;
         }
         let instance = self.instance;
         instance.check(configuration, user)

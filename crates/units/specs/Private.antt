@@ -42,9 +42,9 @@ bothOf bits = bit 0 bits && bit 1 bits
 abbrev pub someOf : ℕ → Bool
 someOf bits = bit 0 bits || bit 1 bits
 
--- by the kind k of a word that takes its sides from the row
-abbrev pub joinedOf : Stack → ℕ → Stack
-joinedOf s k =
+-- by the kind k of a word that has sides: it takes them from the row
+abbrev pub compositeOf : Stack → ℕ → Stack
+compositeOf s k =
     cond (eqb k NOT) (overOf s (bit 0 (s .unit)) (not (bit 0 (s .met))))
     (cond (eqb k PLUS) (overOf s false false)
     (cond (eqb k EITHER) (besideOf s (bothOf (s .unit)) (someOf (s .met)))
@@ -58,7 +58,7 @@ stepOf u h s k x =
     cond (eqb k EVERYONE) (leafOf s (not (eqb h 0)))
     (cond (eqb k ROLE) (leafOf s (bit x h))
     (cond (eqb k SET) (leafOf s (bit u x && not (eqb h 0)))
-    (joinedOf s k)))
+    (compositeOf s k)))
 
 -- what is found of the term that some words are
 abbrev pub analysisIn : ℕ → ℕ → Option Term → Analysis

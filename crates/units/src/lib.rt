@@ -16,6 +16,15 @@ pub struct Survey {
     pub met: u32,
 }
 
+impl Survey {
+    // That of a refused policy.
+    pub const NONE: Self = Survey {
+        accepted: false,
+        units: 0,
+        met: 0,
+    };
+}
+
 // The words that begin unit terms, bit i for word i; 0 for words that are not one well-formed term of 1 to 31 words.
 pub fn units_of(words: &[u32]) -> u32
     ensures { λ r. ⌜ r ≡ unitWords (now (words .entry)) ⌝ }
@@ -38,23 +47,16 @@ pub fn met(words: &[u32], user: u8, held: u16) -> u32
     found.noted
 }
 
-// A refused policy.
-const NO_SURVEY: Survey = Survey {
-    accepted: false,
-    units: 0,
-    met: 0,
-};
-
 // Whether a policy is accepted and, if so, its unit words and those that a user who holds these roles meets.
 pub fn survey_of(users: u8, roles: u8, words: &[u32], user: u8, held: u16) -> Survey
     ensures { λ r. ⌜ r ≡ surveyOf users roles (now (words .entry)) user held ⌝ }
 {
     if !in_layout(users, roles, words) {
-        return NO_SURVEY;
+        return Survey::NONE;
     }
     let term = analyse(words, user, held);
     if !term.formed {
-        return NO_SURVEY;
+        return Survey::NONE;
     }
     Survey {
         accepted: true,

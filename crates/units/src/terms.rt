@@ -4,7 +4,7 @@ ghost use Prim.Native.Nat.{_≤_};
 ghost use lib.ListN.{length};
 ghost use Rattle.soda.specs.Bits.{bit};
 ghost use Rattle.policy.specs.Words.{kind, operand, decode};
-ghost use Rattle.units.specs.Private.{placedOf, leafOf, overOf, besideOf, bothOf, someOf, joinedOf, stepOf, analysisIn};
+ghost use Rattle.units.specs.Private.{placedOf, leafOf, overOf, besideOf, bothOf, someOf, compositeOf, stepOf, analysisIn};
 use policy::kind_of;
 use policy::kinds;
 use policy::operand_of;
@@ -115,9 +115,9 @@ fn some(bits: u32) -> bool
     has_bit(bits, 0) | has_bit(bits, 1)
 }
 
-// The row after a word of kind k that takes its sides from the row.
-fn joined(s: Stack, k: usize) -> Stack
-    ensures { λ r. ⌜ r ≡ joinedOf s k ⌝ }
+// The row after a word of kind k that has sides: it takes them from the row.
+fn composite(s: Stack, k: usize) -> Stack
+    ensures { λ r. ⌜ r ≡ compositeOf s k ⌝ }
 {
     if k == kinds::NOT {
         return over(s, has_bit(s.unit, 0), !has_bit(s.met, 0));
@@ -151,7 +151,7 @@ fn step(s: Stack, w: u32, user: u8, held: u16) -> Stack
     if k == kinds::SET {
         return leaf(s, has_bit(operand_of(w), user as u32) & (held != 0));
     }
-    joined(s, k)
+    composite(s, k)
 }
 
 // The one term that the words are, analysed for a user who holds these roles; only what is noted depends on them.

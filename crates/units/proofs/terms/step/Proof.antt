@@ -37,7 +37,7 @@ returns-4 c =
     let one = two .before in
     let k = one .before in
     rw (
-      c .joined .ensures,
+      c .composite .ensures,
       k .kind-of .ensures,
       not-kind k 1 (one .if1 .left),
       not-kind k 2 (two .if2 .left),

@@ -1,8 +1,8 @@
 -- Each `return` rewrites with the kind.
 use borrow.Author.Needs.{needs}
 use borrow.Author.Tests.{ne-eqb}
-use Rattle.units.proofs.terms.joined.Statement.{statement}
-use Rattle.units.proofs.terms.joined.Tie as tie
+use Rattle.units.proofs.terms.composite.Statement.{statement}
+use Rattle.units.proofs.terms.composite.Tie as tie
 
 returns : tie.Need-returns
 returns c =
@@ -50,8 +50,8 @@ returns-6 c =
       c .if5 .left,
     )
 
-pub joined-spec : {M : Type 1} → statement M
-joined-spec =
+pub composite-spec : {M : Type 1} → statement M
+composite-spec =
     tie.close
     (tie.spec
     (λ c κs. search needs)
