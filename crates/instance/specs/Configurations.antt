@@ -34,10 +34,13 @@ configurationOf users roles rows = record { «user_roles» = padded 16 rows; use
 abbrev pub rowsOk : ℕ → ℕ → List ℕ → Bool
 rowsOk users roles rows = eqb (length rows) users && all (λ h. ltb h (2 ^ roles)) rows
 
--- 01's order: 5, 6
+-- what an opening's configuration is refused for behind its policy: 6
+abbrev pub rowRefusals : ℕ → ℕ → List ℕ → Refusals
+rowRefusals users roles rows = (not (rowsOk users roles rows) gives ROWS) ∷ []
+
+-- and by itself: 5 first
 abbrev pub configurationRefusals : ℕ → ℕ → List ℕ → Refusals
-configurationRefusals users roles rows =
-    (not (countOk users && countOk roles) gives COUNTS) ∷ (not (rowsOk users roles rows) gives ROWS) ∷ []
+configurationRefusals users roles rows = (not (countOk users && countOk roles) gives COUNTS) ∷ rowRefusals users roles rows
 
 -- the number, and the configuration; all zero where it is refused
 abbrev pub configuredAs : ℕ → Configuration → Configured

@@ -1,21 +1,21 @@
 -- What a policy read says of an opening: its number is the opening's, and where it is accepted the rows decide.
 use mathlib.Core.Path.{_≡_, refl, sym, subst, _∙_}
 use mathlib.Core.Logic.{_≢_}
-use mathlib.Core.Bool.{Bool, true, false, not, _&&_, cond}
-use mathlib.Core.List.{List, [], _∷_}
+use mathlib.Core.Bool.{Bool, true, false, _&&_, cond}
+use mathlib.Core.List.{List, []}
 use Prim.Native.Nat.{ℕ}
 use lib.Dec.{eqb}
 use lib.ListN.{length}
 use borrow.Author.Tests.{eqb-true, eqb-false, ne-eqb, not-false}
 use Rattle.soda.proofs.Bools.{by-test}
 use Rattle.policy.specs.Codes.{ROWS}
-use Rattle.policy.specs.Refusals.{_gives_, code, Refusals, Clear}
+use Rattle.policy.specs.Refusals.{code, Refusals, Clear}
 use Rattle.policy.specs.Words.{decode}
 use Rattle.policy.specs.Reading.{countOk, refusals, unitsOf, readPolicy}
 use Rattle.policy.specs.declared.PolicyRead.{PolicyRead}
 use Rattle.policy.specs.declared.PolicyRead.the-variants.{Accepted, Refused}
 use Rattle.policy.proofs.Refusals.{clear, code-front, code-behind}
-use Rattle.instance.specs.Configurations.{rowsOk, configurationOf, givenConfiguration}
+use Rattle.instance.specs.Configurations.{rowsOk, rowRefusals, configurationOf, givenConfiguration}
 use Rattle.monitor.specs.Monitors.{Opening, blank, openRefusals, openCode, fresh, opened, opening}
 use Rattle.monitor.specs.Laws.{OpenedIsFresh}
 
@@ -55,7 +55,7 @@ module _ (o : Opening) where
   policy-refusals = refusals (o .users) (o .roles) (o .words)
 
   abbrev pub rows-refusal : Refusals
-  rows-refusal = (not (rowsOk (o .users) (o .roles) (o .rows)) gives ROWS) ∷ []
+  rows-refusal = rowRefusals (o .users) (o .roles) (o .rows)
 
   -- the number of an opening
   pub code-refused : (k : ℕ) → readPolicy (o .users) (o .roles) (o .words) ≡ Refused k → openCode o ≡ k

@@ -4,13 +4,13 @@ use mathlib.Core.List.{List, [], _∷_, _++_}
 use Prim.Native.Nat.{ℕ}
 use lib.Dec.{ltb, eqb}
 use Rattle.soda.specs.Terms.{Term}
-use Rattle.policy.specs.Codes.{ROWS, WORKSPACE, MONITOR}
+use Rattle.policy.specs.Codes.{WORKSPACE, MONITOR}
 use Rattle.policy.specs.Refusals.{_gives_, code}
 use Rattle.policy.specs.Words.{decode, termOf}
 use Rattle.policy.specs.Reading.{refusals}
 use Rattle.monitor.specs.declared.Monitor.{Monitor}
 use Rattle.monitor.specs.declared.Answer.{Answer}
-use Rattle.instance.specs.Configurations.{noConfiguration, configurationOf, rowsOk, configurationOk}
+use Rattle.instance.specs.Configurations.{noConfiguration, configurationOf, rowRefusals, configurationOk}
 use Rattle.instance.specs.Instances.{noInstance, instanceOf, instanceOk}
 
 -- ── opening ──
@@ -30,7 +30,7 @@ policy o = termOf (decode (o .words))
 
 -- 01's order: 5, 1, 2, 3, 4, 6
 unfoldable pub openRefusals : Opening → List (Bool × ℕ)
-openRefusals o = refusals (o .users) (o .roles) (o .words) ++ ((not (rowsOk (o .users) (o .roles) (o .rows)) gives ROWS) ∷ [])
+openRefusals o = refusals (o .users) (o .roles) (o .words) ++ rowRefusals (o .users) (o .roles) (o .rows)
 
 abbrev pub openCode : Opening → ℕ
 openCode o = code (openRefusals o)
