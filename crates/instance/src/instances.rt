@@ -13,6 +13,11 @@ use super::lists::padded_words;
 use super::lists::zero_words;
 use soda::Action;
 
+// The mark of an instance that is open, and the one that a close sets; every other value is closed too.
+const OPEN: u8 = 0;
+
+const CLOSED: u8 = 1;
+
 impl Check {
     // That of an instance which is not well formed.
     pub const FAILED: Self = Check {
@@ -79,13 +84,17 @@ impl Instance {
     pub fn under(words: &[u32]) -> Self
         ensures { λ r. ⌜ r ≡ cond (leb (length (now (words .entry))) 31) (instanceOf (now (words .entry))) noInstance ⌝ }
     {
-        let mut next = Instance::BLANK;
-        if words.len() <= 31 {
-            let policy = padded_words(words);
-            next.policy = policy;
-            next.words = words.len() as u16;
+        if 31 < words.len() {
+            return Instance::BLANK;
         }
-        next
+        let policy = padded_words(words);
+        Instance {
+            policy,
+            actions: [Action { user: 0, met: 0 }; 12],
+            words: words.len() as u16,
+            taken: 0,
+            closed: OPEN,
+        }
     }
 
     // Whether the mark is set.
@@ -114,7 +123,7 @@ impl Instance {
         ensures { λ r. ⌜ r ≡ asClosed self ⌝ }
     {
         let mut next = self;
-        next.closed = 1;
+        next.closed = CLOSED;
         next
     }
 

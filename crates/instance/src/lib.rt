@@ -25,10 +25,11 @@ pub struct Instance {
     pub closed: u8,
 }
 
-// What an opening gives a configuration: its number, and the configuration; all zero if it is refused.
+// What an opening gives a configuration: its number, and the configuration; all zero if it is refused. The number stands last: in front
+// it moves the rows to odd places, and each copy of them then waits for the one before.
 pub struct Configured {
-    pub code: u8,
     pub configuration: Configuration,
+    pub code: u8,
 }
 
 // Whether an instance is well formed over a configuration (part of number 15) and, if so, the unit terms that a user meets; else zero.

@@ -6,12 +6,12 @@ use Rattle.instance.proofs.Instance.under.Statement.{statement}
 use Rattle.instance.proofs.Instance.under.Tie as tie
 
 returns : tie.Need-returns
-returns c =
-    let t = c .before in
-    rw (le-leb (length (t .before .before .args .words .now)) 31 (t .if1 .taken), c .padded-words .ensures)
+returns c = rw (lt-leb (length (c .before .before .args .words .now)) 31 (c .if1 .taken))
 
 returns-2 : tie.Need-returns-2
-returns-2 c = rw (lt-leb (length (c .before .before .args .words .now)) 31 (c .if1 .left))
+returns-2 c =
+    let e = c .before in
+    rw (le-leb (length (e .before .before .args .words .now)) 31 (e .if1 .left), c .padded-words .ensures)
 
 pub under-spec : {M : Type 1} → statement M
-under-spec = tie.close (tie.spec (λ c κs. search needs) (λ c. search needs) returns returns-2)
+under-spec = tie.close (tie.spec returns (λ c κs. search needs) (λ c. search needs) returns-2)
