@@ -101,7 +101,7 @@ impl Instance {
     pub fn is_closed(self) -> bool
         ensures { λ r. ⌜ r ≡ isClosed self ⌝ }
     {
-        self.closed != 0
+        self.closed != OPEN
     }
 
     // The next place holds the action, and there is one more. The thirteenth alters nothing.

@@ -20,14 +20,13 @@ use Rattle.monitor.specs.Monitors.{Opening, blank, openRefusals, openCod
 use Rattle.monitor.specs.Laws.{OpenedIsFresh}
 
 -- what an accepted read says
-pub record IsRead (users roles : ℕ) (words : List ℕ) (n units : ℕ) : Type 0 where
+pub record IsRead (users roles : ℕ) (words : List ℕ) (n : ℕ) : Type 0 where
   pub clear-read : Clear (refusals users roles words)
   pub word-count : n ≡ length words
-  pub unit-words : units ≡ unitsOf (decode words)
 
 module _ (users roles : ℕ) (words : List ℕ) where
   abbrev Says : PolicyRead → Type 0
-  Says (Accepted n m) = IsRead users roles words n m
+  Says (Accepted n m) = IsRead users roles words n
   Says (Refused k) = (code (refusals users roles words) ≡ k) × (k ≢ 0)
 
   says : Says (readPolicy users roles words)
@@ -39,11 +38,10 @@ module _ (users roles : ℕ) (words : List ℕ) where
       go true z = record {
         clear-read = clear (refusals users roles words) refl (eqb-true (code (refusals users roles words)) 0 z);
         word-count = refl;
-        unit-words = refl;
       }
       go false z = (refl, eqb-false (code (refusals users roles words)) 0 z)
 
-  pub read-accepted : (n m : ℕ) → readPolicy users roles words ≡ Accepted n m → IsRead users roles words n m
+  pub read-accepted : (n m : ℕ) → readPolicy users roles words ≡ Accepted n m → IsRead users roles words n
   read-accepted n m e = subst Says e says
 
   pub read-refused : (k : ℕ) → readPolicy users roles words ≡ Refused k → (code (refusals users roles words) ≡ k) × (k ≢ 0)

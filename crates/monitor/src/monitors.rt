@@ -28,7 +28,11 @@ impl Monitor {
         ensures { λ r. ⌜ r ≡ opening (given users roles (now (words .entry)) (now (rows .entry))) ⌝ }
     {
         let read = policy::read(users, roles, words);
-        let PolicyRead::Accepted { words: _, units: _ } = read else {
+        let PolicyRead::Accepted {
+            words: count,
+            units: _,
+        } = read
+        else {
             return refused(policy::number_of(read));
         };
         let configured = Configuration::open(users, roles, rows);
@@ -37,7 +41,7 @@ impl Monitor {
             return refused(code);
         }
         let configuration = configured.configuration;
-        let instance = Instance::under(words);
+        let instance = Instance::under(&words[..count]);
         Answer {
             code,
             monitor: Monitor {

@@ -1,9 +1,11 @@
 -- The read's number is the opening's; an accepted read leaves the configuration to decide.
 use mathlib.Core.Path.{_≡_, sym, ap, _∙_}
 use Prim.Native.Nat.{ℕ}
+use native.Mathlib.Omega.{arith}
 use borrow.Author.Needs.{needs}
 use borrow.Author.Tests.{le-leb}
-use lib.ListN.{length}
+use lib.ListN.{length, take}
+use lib.Seq.{take-length, length-take-le}
 use Rattle.policy.specs.Reading.{numberOf, readPolicy}
 use Rattle.policy.specs.declared.PolicyRead.the-variants.{Refused}
 use Rattle.instance.specs.declared.Configured.{Configured}
@@ -25,22 +27,26 @@ returns c =
     let t = c .before .before in
     let r = t .before .before in
     let o = asked (start r) in
-    let k : ℕ = t .enum-told2 .given .0 .0 in
-    let e : readPolicy (o .users) (o .roles) (o .words) ≡ Refused k = sym (r .read .ensures) ∙ t .enum-told2 .given .1 in
-    let n : c .before .number-of .result ≡ k = c .before .number-of .ensures ∙ ap numberOf (t .enum-told2 .given .1) in
+    let k : ℕ = t .enum-told .given .0 .0 in
+    let e : readPolicy (o .users) (o .roles) (o .words) ≡ Refused k = sym (r .read .ensures) ∙ t .enum-told .given .1 in
+    let n : c .before .number-of .result ≡ k = c .before .number-of .ensures ∙ ap numberOf (t .enum-told .given .1) in
     (rw n at (c .refused .ensures)) ∙ opening-refused o k (read-refused (o .users) (o .roles) (o .words) k e .1) (code-refused o k e)
 
 -- an accepted read, and what the configuration then answers
 module _ (c : tie.After-open) where
-  abbrev told : tie.After-enum-told
-  told = c .before
+  abbrev told : tie.After-read2
+  told = c .before .before
 
   abbrev opens : Opening
   opens = asked (start (told .before .before))
 
-  read-is : IsRead (opens .users) (opens .roles) (opens .words) (told .enum-told .given .0 .0) (told .enum-told .given .0 .1 .0)
-  read-is = read-accepted (opens .users) (opens .roles) (opens .words) (told .enum-told .given .0 .0) (told .enum-told .given .0 .1 .0)
-      (sym (told .before .before .read .ensures) ∙ told .enum-told .given .1)
+  read-is : IsRead (opens .users) (opens .roles) (opens .words) (told .read2 .given .0 .0)
+  read-is = read-accepted (opens .users) (opens .roles) (opens .words) (told .read2 .given .0 .0) (told .read2 .given .0 .1 .0)
+      (sym (told .before .before .read .ensures) ∙ told .read2 .given .1)
+
+  -- as many words as there are are handed on
+  whole : take (told .read2 .given .0 .0) (opens .words) ≡ opens .words
+  whole = ap (λ (n : ℕ). take n (opens .words)) (read-is .word-count) ∙ take-length (opens .words)
 
   number : c .«open» .result .code ≡ openCode opens
   number = ap (λ (r : Configured). r .code) (c .«open» .ensures) ∙ configuration-code opens (read-is .clear-read)
@@ -51,15 +57,21 @@ returns-2 c =
     let o = opens (t .before) in
     c .refused2 .ensures ∙ opening-refused o (t .before .«open» .result .code) (t .if1 .taken) (sym (number (t .before)))
 
+slice-aggregate-under : tie.Need-slice-aggregate-under
+slice-aggregate-under c =
+    let r = c .before .before .before in
+    let n : ℕ = told r .read2 .given .0 .0 in
+    sym (length-take-le n (opens r .words) (omega (arith, read-is r .word-count)))
+
 returns-3 : tie.Need-returns-3
 unfolding fresh
 returns-3 c =
-    let e = c .before .before in
+    let e = c .before .before .before in
     let r = e .before in
     let o = opens r in
     let few = words-few (o .words) (policy-ok (o .users) (o .roles) (o .words) (read-is r .clear-read)) in
     let z = ap (λ (r : Configured). r .code) (sym (r .«open» .ensures)) ∙ e .if1 .left in
-    rw (e .if1 .left, ap (λ (r : Configured). r .configuration) (r .«open» .ensures) ∙ configuration-given o z, c .under .ensures, le-leb (length (o .words)) 31 few)
+    rw (e .if1 .left, ap (λ (r : Configured). r .configuration) (r .«open» .ensures) ∙ configuration-given o z, c .under .ensures, whole r, le-leb (length (o .words)) 31 few)
     (opening-accepted o (sym (number r) ∙ e .if1 .left))
 
 pub open-spec : {M : Type 1} → statement M
@@ -75,5 +87,6 @@ open-spec =
     (λ c κs. search needs)
     (λ c κs. search needs)
     returns-2
+    slice-aggregate-under
     (λ c κs. search needs)
     returns-3)
