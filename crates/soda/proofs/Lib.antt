@@ -19,6 +19,7 @@ pub mod Joins
 pub mod Parts
 pub mod Orders
 pub mod Notes
+pub mod Renaming
 pub mod Multisets
 pub mod Traces
 pub mod Processes

@@ -19,7 +19,7 @@ module _ (ρ : Term) where
   noted-bit : (i : ℕ) (φ : Term) → Stands ρ i φ → So (unit φ) → (a : Execution) → bit i (note ρ a .met) ≡ metBy φ a
   noted-bit i φ s u a = bit-standing (λ ψ. unit ψ && meets ψ (a .user) (a .held)) s ∙ ap (λ b. b && metBy φ a) u
 
-  same-notes : (φ : Term) (i : ℕ) → Stands ρ i φ → So (wellFormed φ) → Same (note ρ) (λ a. a .user) (λ ψ j. metBy ψ) (λ ψ j b. bit j (b .met)) φ i i
+  same-notes : (φ : Term) (i : ℕ) → Stands ρ i φ → So (wellFormed φ) → Same (note ρ) (λ ψ j. metBy ψ) (λ ψ j b. bit j (b .met)) φ i i
   same-notes everyone i s w = noted-bit i everyone s refl
   same-notes (role r) i s w = noted-bit i (role r) s refl
   same-notes (set m) i s w = noted-bit i (set m) s refl
@@ -30,7 +30,7 @@ module _ (ρ : Term) where
       (noted-bit i (bin op φ ψ) s, same-notes φ (1 + i) (stands-left s) (k .0), same-notes ψ (1 + i + size φ) (stands-right s) (k .1))
 
   noted-table : So (wellFormed ρ) → (e : Bool) (s : List Execution) → bitTable (λ (a : Action). a .user) (λ a. a .met) e ρ 0 (map (note ρ) s) ≡ judge e ρ s
-  noted-table w e s = table-map (note ρ) (λ a. a .user) (λ ψ j. metBy ψ) (λ ψ j b. bit j (b .met)) e ρ 0 0 (same-notes ρ 0 (stands-whole ρ) w) s
+  noted-table w e s = table-map (note ρ) (λ ψ j. metBy ψ) (λ ψ j b. bit j (b .met)) (λ a. a .user) (λ a. a .user) (λ a b. refl) e ρ 0 0 (same-notes ρ 0 (stands-whole ρ) w) s
 
 pub noted-is-meant : NotedIsMeant
 noted-is-meant φ w s = (noted-table φ w false s, noted-table φ w true s)

@@ -103,23 +103,28 @@ module _ {A B : Type 0} (f : A → B) where
   several-map e g [] = refl
   several-map e g (a ∷ s) = all-map f g (a ∷ s)
 
-  module _ (user : B → ℕ) where
-    disjoint-map : (s t : List A) → disjoint user (map f s) (map f t) ≡ disjoint (λ a. user (f a)) s t
-    disjoint-map s t = all-map f (λ b. not (acts user (user b) (map f t))) s
-        ∙ ap (λ (g : A → Bool). all g s) (fun-ext (λ a. ap not (any-map f (λ b. eqb (user b) (user (f a))) t)))
+  -- Users are only compared with one another, so a map may rename them.
+  abbrev pub SameUsers : (A → ℕ) → (B → ℕ) → Type 0
+  SameUsers user user′ = (a b : A) → eqb (user′ (f a)) (user′ (f b)) ≡ eqb (user a) (user b)
 
-    join-map : (op : Op) (F G : Judgement B) (s : List A) → join user op F G (map f s) ≡ join (λ a. user (f a)) op (λ m. F (map f m)) (λ m. G (map f m)) s
+  module _ (user : A → ℕ) (user′ : B → ℕ) (k : SameUsers user user′) where
+    disjoint-map : (s t : List A) → disjoint user′ (map f s) (map f t) ≡ disjoint user s t
+    disjoint-map s t = all-map f (λ b. not (acts user′ (user′ b) (map f t))) s
+        ∙ ap (λ (g : A → Bool). all g s)
+        (fun-ext (λ a. ap not (any-map f (λ b. eqb (user′ b) (user′ (f a))) t ∙ ap (λ (g : A → Bool). any g t) (fun-ext (λ b. k b a)))))
+
+    join-map : (op : Op) (F G : Judgement B) (s : List A) → join user′ op F G (map f s) ≡ join user op (λ m. F (map f m)) (λ m. G (map f m)) s
     join-map either F G s = refl
     join-map both F G s = refl
     join-map together F G s = any-splits-map f (λ p. F (p .0) && G (p .1)) s
-    join-map apart F G s = any-splits-map f (λ p. disjoint user (p .0) (p .1) && (F (p .0) && G (p .1))) s
+    join-map apart F G s = any-splits-map f (λ p. disjoint user′ (p .0) (p .1) && (F (p .0) && G (p .1))) s
         ∙ ap (λ (g : List A × List A → Bool). any g (splits s))
         (fun-ext (λ p. ap (λ (b : Bool). b && (F (map f (p .0)) && G (map f (p .1)))) (disjoint-map (p .0) (p .1))))
 
--- The table over one kind of action is the table over another, where a map between them keeps the user and what was met. What is
--- met is compared only at the unit terms that the table asks for: those of φ, whose first word stands at i in one table and at j
--- in the other.
-module _ {A B : Type 0} (f : A → B) (user : B → ℕ) (met : Term → ℕ → A → Bool) (met′ : Term → ℕ → B → Bool) where
+-- The table over one kind of action is the table over another, where a map between them keeps what was met and who is the same user.
+-- What is met is compared only at the unit terms that the table asks for: those of φ, whose first word stands at i in one table and
+-- at j in the other.
+module _ {A B : Type 0} (f : A → B) (met : Term → ℕ → A → Bool) (met′ : Term → ℕ → B → Bool) where
   -- what a term asks for at places i and j
   abbrev pub Same : Term → ℕ → ℕ → Type 0
   Same everyone i j = (a : A) → met′ everyone i (f a) ≡ met everyone j a
@@ -131,25 +136,26 @@ module _ {A B : Type 0} (f : A → B) (user : B → ℕ) (met : Term → ℕ →
       (So (unit (bin op φ ψ)) → (a : A) → met′ (bin op φ ψ) i (f a) ≡ met (bin op φ ψ) j a)
       × Same φ (1 + i) (1 + j) × Same ψ (1 + i + size φ) (1 + j + size φ)
 
-  pub table-map : (e : Bool) (φ : Term) (i j : ℕ) → Same φ i j → (s : List A) → table user met′ e φ i (map f s) ≡ table (λ a. user (f a)) met e φ j s
-  unfolding table
-  table-map e everyone i j h s = single-map f e (met′ everyone i) s ∙ ap (λ g. single e g s) (fun-ext h)
-  table-map e (role r) i j h s = single-map f e (met′ (role r) i) s ∙ ap (λ g. single e g s) (fun-ext h)
-  table-map e (set m) i j h s = single-map f e (met′ (set m) i) s ∙ ap (λ g. single e g s) (fun-ext h)
-  table-map e (¬ᵗ φ) i j h s = single-map f e (met′ (¬ᵗ φ) i) s ∙ ap (λ g. single e g s) (fun-ext h)
-  table-map e (φ ⁺) i j h s = several-map f e (met′ φ (1 + i)) s ∙ ap (λ g. several e g s) (fun-ext h)
-  table-map e (bin op φ ψ) i j h s =
-      go (unit (bin op φ ψ)) refl (table-map e φ (1 + i) (1 + j) (h .1)) (table-map e ψ (1 + i + size φ) (1 + j + size φ) (h .2))
-    where
-      go : (b : Bool) → unit (bin op φ ψ) ≡ b
-          → ((m : List A) → table user met′ e φ (1 + i) (map f m) ≡ table (λ a. user (f a)) met e φ (1 + j) m)
-          → ((m : List A) → table user met′ e ψ (1 + i + size φ) (map f m) ≡ table (λ a. user (f a)) met e ψ (1 + j + size φ) m)
-          → cond b (single e (met′ (bin op φ ψ) i) (map f s)) (join user op (table user met′ e φ (1 + i)) (table user met′ e ψ (1 + i + size φ)) (map f s))
-          ≡ cond b (single e (met (bin op φ ψ) j) s)
-          (join (λ a. user (f a)) op (table (λ a. user (f a)) met e φ (1 + j)) (table (λ a. user (f a)) met e ψ (1 + j + size φ)) s)
-      go true u p q = single-map f e (met′ (bin op φ ψ) i) s ∙ ap (λ g. single e g s) (fun-ext (h .0 u))
-      go false u p q = join-map f user op (table user met′ e φ (1 + i)) (table user met′ e ψ (1 + i + size φ)) s
-          ∙ ap₂ (λ (x y : Judgement A). join (λ a. user (f a)) op x y s) (fun-ext p) (fun-ext q)
+  module _ (user : A → ℕ) (user′ : B → ℕ) (k : SameUsers f user user′) where
+    pub table-map : (e : Bool) (φ : Term) (i j : ℕ) → Same φ i j → (s : List A) → table user′ met′ e φ i (map f s) ≡ table user met e φ j s
+    unfolding table
+    table-map e everyone i j h s = single-map f e (met′ everyone i) s ∙ ap (λ g. single e g s) (fun-ext h)
+    table-map e (role r) i j h s = single-map f e (met′ (role r) i) s ∙ ap (λ g. single e g s) (fun-ext h)
+    table-map e (set m) i j h s = single-map f e (met′ (set m) i) s ∙ ap (λ g. single e g s) (fun-ext h)
+    table-map e (¬ᵗ φ) i j h s = single-map f e (met′ (¬ᵗ φ) i) s ∙ ap (λ g. single e g s) (fun-ext h)
+    table-map e (φ ⁺) i j h s = several-map f e (met′ φ (1 + i)) s ∙ ap (λ g. several e g s) (fun-ext h)
+    table-map e (bin op φ ψ) i j h s =
+        go (unit (bin op φ ψ)) refl (table-map e φ (1 + i) (1 + j) (h .1)) (table-map e ψ (1 + i + size φ) (1 + j + size φ) (h .2))
+      where
+        go : (b : Bool) → unit (bin op φ ψ) ≡ b
+            → ((m : List A) → table user′ met′ e φ (1 + i) (map f m) ≡ table user met e φ (1 + j) m)
+            → ((m : List A) → table user′ met′ e ψ (1 + i + size φ) (map f m) ≡ table user met e ψ (1 + j + size φ) m)
+            → cond b (single e (met′ (bin op φ ψ) i) (map f s)) (join user′ op (table user′ met′ e φ (1 + i)) (table user′ met′ e ψ (1 + i + size φ)) (map f s))
+            ≡ cond b (single e (met (bin op φ ψ) j) s)
+            (join user op (table user met e φ (1 + j)) (table user met e ψ (1 + j + size φ)) s)
+        go true u p q = single-map f e (met′ (bin op φ ψ) i) s ∙ ap (λ g. single e g s) (fun-ext (h .0 u))
+        go false u p q = join-map f user user′ k op (table user′ met′ e φ (1 + i)) (table user′ met′ e ψ (1 + i + size φ)) s
+            ∙ ap₂ (λ (x y : Judgement A). join user op x y s) (fun-ext p) (fun-ext q)
 
 -- ── over what actions mean ──
 abbrev pub who : Execution → ℕ

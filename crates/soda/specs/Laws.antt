@@ -1,7 +1,7 @@
--- What is proved of digits, of terms and their words, and of the actions of a trace. Statements only.
+-- What is proved of digits, of terms and their words, of the table, and of the actions of a trace. Statements only.
 use mathlib.Core.Path.{_≡_}
 use mathlib.Core.Bool.{Bool, false, So, not, _&&_, _||_}
-use mathlib.Core.List.{List, _++_}
+use mathlib.Core.List.{List, [], _∷_, _++_}
 use Prim.Native.Nat.{ℕ, _-_, _^_, _≤_, _<_}
 use lib.Dec.{eqb}
 use lib.ListN.{length, getD, drop}
@@ -10,7 +10,9 @@ use Rattle.soda.specs.Bits.{bit, setBit, clearBit, number}
 use Rattle.soda.specs.Terms.{Op, Term, sameOp, size, subterms, termAt, marks}
 use Rattle.soda.specs.Words.{opKind, encode, fits, wordsLe, termLe}
 use Rattle.soda.specs.Roles.{UA}
+use Rattle.soda.specs.Tables.{acts, bitTable}
 use Rattle.soda.specs.Traces.{Trace, upd, executed}
+use Rattle.soda.specs.declared.Action.{Action}
 
 -- ── digits, and the part of a list from a place on ──
 -- A digit set or cleared: that digit alone changes.
@@ -70,6 +72,16 @@ WordsTrans = (u v w : List ℕ) → So (wordsLe u v) → So (wordsLe v w) → So
 abbrev pub CompareInPlace : Type 0
 CompareInPlace =
     (φ ψ : Term) (p q : List ℕ) → So (fits φ) → So (fits ψ) → (φ ≡ ψ → ⊥) → wordsLe (encode φ ++ p) (encode ψ ++ q) ≡ termLe φ ψ
+
+-- ── the table ──
+-- An action's user plays no part but for being the same as another's. So a user who acts nowhere else can be renamed: two users who
+-- have not acted, and for whom the same is noted, are judged alike.
+abbrev pub NewUserIsRenamed : Type 0
+NewUserIsRenamed =
+    (e : Bool) (φ : Term) (i : ℕ) (l : List Action) (u v met : ℕ)
+    → acts (λ a. a .user) u l ≡ false → acts (λ a. a .user) v l ≡ false
+    → bitTable (λ a. a .user) (λ a. a .met) e φ i (l ++ (record { user = u; met = met } ∷ []))
+    ≡ bitTable (λ a. a .user) (λ a. a .met) e φ i (l ++ (record { user = v; met = met } ∷ []))
 
 -- ── traces ──
 -- The actions of two traces in a row: those of the second with the roles that the first leaves.

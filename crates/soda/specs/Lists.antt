@@ -1,7 +1,7 @@
 -- Lists: tests over their elements, the ways in which a list falls into two, parts and padding, counting, sorting and merging.
 use mathlib.Core.Bool.{Bool, true, false, _&&_, _||_, cond}
 use mathlib.Core.List.{List, [], _∷_, _++_, map}
-use Prim.Native.Nat.{ℕ, _+_, _-_}
+use Prim.Native.Nat.{ℕ, zero, suc, _+_, _-_}
 use lib.Dec.{eqb}
 use lib.ListN.{length, take, drop, replicate}
 
@@ -30,6 +30,11 @@ module _ {A : Type 0} where
     nil : Split [] [] []
     left : {x : A} {s l r : List A} → Split s l r → Split (x ∷ s) (x ∷ l) r
     right : {x : A} {s l r : List A} → Split s l r → Split (x ∷ s) l (x ∷ r)
+
+-- the n numbers from i on
+abbrev pub range : ℕ → ℕ → List ℕ
+range i zero = []
+range i (suc n) = i ∷ range (suc i) n
 
 -- what stands from place k on, as the code's `&l[k..]` takes it
 abbrev pub from : ℕ → List ℕ → List ℕ
