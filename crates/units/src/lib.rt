@@ -1,6 +1,6 @@
 // Unit terms of a policy's words: which words begin them, and which of them a user meets.
 ghost use mathlib.Core.Path.{_≡_};
-ghost use Rattle.units.specs.Units.{unitWords, metOf, surveyOf};
+ghost use Rattle.units.specs.Units.{unitWords, metOf, metEach, surveyOf};
 
 mod terms;
 
@@ -45,6 +45,22 @@ pub fn met(words: &[u32], user: u8, held: u16) -> u32
     }
     let found = analyse(words, user, held);
     found.noted
+}
+
+// What each user meets so, by the roles of each, user 0 first, with zeros behind; all zero for more than 16 users.
+pub fn met_each(words: &[u32], rows: &[u16]) -> [u32; 16]
+    ensures { λ r. ⌜ r ≡ metEach (now (words .entry)) (now (rows .entry)) ⌝ }
+{
+    let mut each = [0u32; 16];
+    if 16 < rows.len() {
+        return each;
+    }
+    let mut u: usize = 0;
+    while u < rows.len() {
+        each[u] = met(words, u as u8, rows[u]);
+        u += 1;
+    }
+    each
 }
 
 // Whether a policy is accepted and, if so, its unit words and those that a user who holds these roles meets.
