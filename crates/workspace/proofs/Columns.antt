@@ -10,13 +10,14 @@ use lib.ListN.{length, getD, take, drop, replicate, length-append, length-map, l
 use lib.Pow.{pow-mono}
 use lib.Seq.{getD-append-add, getD-drop, getD-take, ext-getD, length-take-le, take-at}
 use Rattle.soda.specs.Bits.{number}
-use Rattle.soda.specs.Lists.{all}
+use Rattle.soda.specs.Lists.{all, range}
 use Rattle.soda.specs.Terms.{Term, size}
 use Rattle.soda.proofs.Bools.{and-split, so-lt}
 use Rattle.soda.proofs.Bits.{bit-number}
+use Rattle.soda.proofs.Lists.{range-length, map-below}
 use Rattle.shape.specs.Shapes.{rightSides}
 use Rattle.shape.specs.declared.Shape.{Shape}
-use Rattle.workspace.specs.Workspace.{range, select, judged, rowOf, column, tableOf, filled, WordIsRow, BitIsJudged}
+use Rattle.workspace.specs.Workspace.{select, judged, rowOf, column, tableOf, filled, WordIsRow, BitIsJudged}
 use Rattle.workspace.specs.Private.{Masked, Ascending, Listing, Operators, Coded, Suited, Cleared, RowsStand, Shaped}
 use Rattle.soda.specs.declared.Action.{Action}
 use Rattle.workspace.specs.declared.masks.Masks.{Masks}
@@ -24,7 +25,6 @@ use Rattle.workspace.proofs.Digits.{lt-or-le}
 use Rattle.workspace.proofs.Select.{select-take}
 use Rattle.workspace.proofs.Subterms.{rights-length, ascending}
 use Rattle.workspace.proofs.Complete.{listing-same}
-use Rattle.workspace.proofs.Entries.{range-length, map-range}
 
 -- ── what a shape gives ──
 module _ {p : Shape} (w : Shaped p) where
@@ -85,8 +85,7 @@ module _ (φ : Term) (l : List Action) (cap : 2 ^ length l ≤ 4096) where
     column-at : (k : ℕ) → k < 2 ^ length l → getD (column e φ l) k 0 ≡ rowOf e φ l k
     unfolding column sets
     column-at k h =
-        let z : 0 + k ≡ k = omega arith in
-        List·getD-append sets (replicate (4096 - 2 ^ length l) 0) 0 k (omega (arith, sets-length)) ∙ map-range (rowOf e φ l) 0 0 (2 ^ length l) k h ∙ ap (rowOf e φ l) z
+        List·getD-append sets (replicate (4096 - 2 ^ length l) 0) 0 k (omega (arith, sets-length)) ∙ map-below (rowOf e φ l) 0 (2 ^ length l) k h
 
     column-past : (k : ℕ) → 2 ^ length l ≤ k → k < 4096 → getD (column e φ l) k 0 ≡ 0
     unfolding column sets
@@ -131,9 +130,7 @@ word-is-row φ l room s few h =
 
 pub bit-is-judged : BitIsJudged
 unfolding rowOf
-bit-is-judged e φ l s i h =
-    let z : 0 + i ≡ i = omega arith in
-    bit-number (map (judged e φ (select s l)) (range 0 (size φ))) i ∙ map-range (judged e φ (select s l)) false 0 (size φ) i h ∙ ap (judged e φ (select s l)) z
+bit-is-judged e φ l s i h = bit-number (map (judged e φ (select s l)) (range 0 (size φ))) i ∙ map-below (judged e φ (select s l)) false (size φ) i h
 
 -- what the sets below 2^n have, zeros behind them, and the rest of the workspace
 pub record Whole (φ : Term) (l : List Action) (n : ℕ) (room after : List ℕ) : Type 0 where
@@ -143,7 +140,7 @@ pub record Whole (φ : Term) (l : List Action) (n : ℕ) (room after : List ℕ)
   pub high : (k : ℕ) → 4096 + 2 ^ n ≤ k → k < 8192 → getD after k 0 ≡ 0
   pub rest : (k : ℕ) → 8192 ≤ k → getD after k 0 ≡ getD room k 0
 
-row-take : (e : Bool) (φ : Term) (l : List Action) (n x : ℕ) → x < 2 ^ n → rowOf e φ l x ≡ rowOf e φ (take n l) x
+pub row-take : (e : Bool) (φ : Term) (l : List Action) (n x : ℕ) → x < 2 ^ n → rowOf e φ l x ≡ rowOf e φ (take n l) x
 unfolding rowOf
 row-take e φ l n x h = ap (λ k. number (map (judged e φ k) (range 0 (size φ)))) (sym (select-take n l x h))
 

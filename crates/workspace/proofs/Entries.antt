@@ -3,7 +3,7 @@ use mathlib.Core.Path.{_≡_, refl, sym, _∙_, ap, ap₂, subst}
 use mathlib.Core.Bool.{Bool, true, false, _&&_, _||_, and-true, and-assoc, or-false}
 use mathlib.Core.List.{List, [], _∷_, _++_, map, Perm, Perm·refl}
 use mathlib.Core.Logic.{_⊎_, inl, inr}
-use Prim.Native.Nat.{ℕ, zero, suc, _+_, _*_, _/_, _%_, _^_, _≤_, _<_}
+use Prim.Native.Nat.{ℕ, suc, _+_, _*_, _/_, _%_, _^_, _≤_, _<_}
 use native.Mathlib.Nat.{eq-or-lt-of-le, pow-suc, lt-of-lt-of-le}
 use native.Mathlib.Omega.{arith}
 use borrow.Author.Tests.{lt-ltb}
@@ -13,15 +13,16 @@ use lib.ListN.{length, getD, set, length-set, length-map, replicate, length-repl
 use lib.Pow.{pow-mono, pow-pos, low as low-digits}
 use lib.Seq.{getD-set-same, getD-set-other}
 use Rattle.soda.specs.Bits.{bit, number}
-use Rattle.soda.specs.Lists.{all}
+use Rattle.soda.specs.Lists.{all, range}
 use Rattle.soda.specs.Terms.{Term, size}
 use Rattle.soda.specs.Tables.{acts}
 use Rattle.soda.proofs.Bools.{same-test, eq-so, so-eq}
 use Rattle.soda.proofs.Bits.{number-lt, bit-number, bit-of-zero}
+use Rattle.soda.proofs.Lists.{range-length, map-below}
 use Rattle.soda.proofs.Splits.{any-append}
 use Rattle.shape.specs.Shapes.{rightSides}
-use Rattle.workspace.specs.Workspace.{range, select, judged, rowOf}
-use Rattle.workspace.specs.Private.{place, Unpacked, noteOf, metIn, twinIn, usersIn, turnedRow, satisfiedIn, possibleIn, leftAt, rightAt, noteAt, Next, AlikePlaces, Twin, Suited, Acting, Noted, RowIs, RowOf, Entry, Known, StoredIs, StoredOf, Cleared, Entered, Added, AddedAll, Written, RowsStand}
+use Rattle.workspace.specs.Workspace.{select, judged, rowOf}
+use Rattle.workspace.specs.Private.{place, Unpacked, noteOf, metIn, twinIn, usersIn, turnedRow, satisfiedIn, possibleIn, leftAt, rightAt, noteAt, Next, AlikePlaces, Twin, Suited, Acting, Noted, RowIs, RowOf, Entry, Known, StoredIs, StoredOf, Cleared, Entered, Added, Begun, AddedFrom, AddedAll, Written, RowsStand}
 use Rattle.soda.specs.declared.Action.{Action}
 use Rattle.workspace.specs.declared.masks.Masks.{Masks}
 use Rattle.workspace.specs.declared.tables.Stored.{Stored}
@@ -31,15 +32,6 @@ use Rattle.workspace.proofs.Exchange.{twin-perm, judged-twin, row-twin}
 use Rattle.workspace.proofs.Table.{stored, left-here, right-here, note-here, elsewhere, met-noted, twin-noted, users-noted}
 
 -- ── a row as a word of the workspace ──
-pub range-length : (i n : ℕ) → length (range i n) ≡ n
-range-length i zero = refl
-range-length i (suc n) = ap suc (range-length (suc i) n)
-
-pub map-range : {A : Type 0} (f : ℕ → A) (d : A) (i n k : ℕ) → k < n → getD (map f (range i n)) k d ≡ f (i + k)
-map-range f d i zero k h = absurd (omega arith)
-map-range f d i (suc n) zero h = let e : i ≡ i + 0 = omega arith in ap f e
-map-range f d i (suc n) (suc k) h = let e : suc i + k ≡ i + suc k = omega arith in map-range f d (suc i) n k (omega arith) ∙ ap f e
-
 row-number : (e : Bool) (φ : Term) (l : List Action) (s row right w : ℕ) → size φ ≤ 31 → RowIs φ (select s l) row right → Unpacked e row w → w < 2 ^ 32 → w ≡ rowOf e φ l s
 unfolding rowOf
 row-number e φ l s row right w short r c h = bit-ext 32 w (number digits) h fits (λ i b. c i b ∙ at i b (lt-or-le i (size φ)) ∙ sym (bit-number digits i))
@@ -54,7 +46,7 @@ row-number e φ l s row right w short r c h = bit-ext 32 w (number digits) h fit
     fits = lt-of-lt-of-le (number-lt digits) (pow-mono {j = 32} (omega (arith, long)))
 
     at : (i : ℕ) → i < 32 → (i < size φ) ⊎ (size φ ≤ i) → bit (place e i) row ≡ getD digits i false
-    at i b (inl k) = let z : 0 + i ≡ i = omega arith in r .here e i k ∙ sym (map-range (judged e φ (select s l)) false 0 (size φ) i k ∙ ap (judged e φ (select s l)) z)
+    at i b (inl k) = r .here e i k ∙ sym (map-below (judged e φ (select s l)) false (size φ) i k)
     at i b (inr k) = r .past e i k b ∙ sym (List·getD-eq-default digits false (omega (arith, long)))
 
 -- ── a row turned ──
@@ -141,7 +133,7 @@ stored-row m ops sets met s twin row row-right left fits e r φ l u f g n p =
     below-63 false i b = omega arith
 
 module _ (m : Masks) (ops : List ℕ) (s who met twin : ℕ) (sets : List ℕ) (row : Stored)
-    (met-fits : met < 4294967296) (twin-fits : twin < 65536) (n : 3 * (s + 1) ≤ length sets) (r : StoredOf m ops sets met s twin row) where
+    (met-fits : met < 4294967296) (twin-fits : twin < 65536) (twin-before : twin ≤ s) (n : 3 * (s + 1) ≤ length sets) (r : StoredOf m ops sets met s twin row) where
   abbrev note : ℕ
   note = noteOf who twin met
 
@@ -163,8 +155,8 @@ module _ (m : Masks) (ops : List ℕ) (s who met twin : ℕ) (sets : List ℕ) (
       note-is : noteAt after s ≡ note
       note-is = note-here sets s (row .left) (row .right) note room
 
-      earlier : (k : ℕ) → k < 3 * s → getD after k 0 ≡ getD sets k 0
-      earlier k b = elsewhere sets s (row .left) (row .right) note k b
+      unmoved : (k : ℕ) → k < 3 * s → getD after k 0 ≡ getD sets k 0
+      unmoved k b = elsewhere sets s (row .left) (row .right) note k b
 
       is : StoredIs φ l s row
       is = r φ l u f g k p
@@ -174,17 +166,19 @@ module _ (m : Masks) (ops : List ℕ) (s who met twin : ℕ) (sets : List ℕ) (
         sides = rw (left-is, right-here sets s (row .left) (row .right) note room, note-is, users-noted who twin met met-fits twin-fits) (is .sides who a);
         noted = rw (note-is, met-noted who twin met met-fits) k;
         twin = rw (note-is, twin-noted who twin met met-fits twin-fits) p;
+        earlier = rw (note-is, twin-noted who twin met met-fits twin-fits) twin-before;
         satisfied = ap satisfiedIn left-is ∙ is .satisfied;
         possible = ap possibleIn left-is ∙ is .possible;
       })
       entry x (inr q) =
           let b = g x q in
           record {
-            sides = rw (earlier (3 * x) (omega arith), earlier (3 * x + 1) (omega arith), earlier (3 * x + 2) (omega arith)) (b .sides);
-            noted = rw (earlier (3 * x + 2) (omega arith)) (b .noted);
-            twin = rw (earlier (3 * x + 2) (omega arith)) (b .twin);
-            satisfied = ap satisfiedIn (earlier (3 * x) (omega arith)) ∙ b .satisfied;
-            possible = ap possibleIn (earlier (3 * x) (omega arith)) ∙ b .possible;
+            sides = rw (unmoved (3 * x) (omega arith), unmoved (3 * x + 1) (omega arith), unmoved (3 * x + 2) (omega arith)) (b .sides);
+            noted = rw (unmoved (3 * x + 2) (omega arith)) (b .noted);
+            twin = rw (unmoved (3 * x + 2) (omega arith)) (b .twin);
+            earlier = rw (unmoved (3 * x + 2) (omega arith)) (b .earlier);
+            satisfied = ap satisfiedIn (unmoved (3 * x) (omega arith)) ∙ b .satisfied;
+            possible = ap possibleIn (unmoved (3 * x) (omega arith)) ∙ b .possible;
           }
 
 -- ── zeros ──
@@ -242,7 +236,7 @@ pub written-all : {sets d a : List ℕ} (n m : ℕ) → n ≤ m → m ≤ n → 
 written-all {sets} {d} {a} n m h k w = let q : n ≡ m = omega arith in subst (λ x. Written x sets d a) q w
 
 -- ── one action more ──
-all-append : {A : Type 0} (f : A → Bool) (l m : List A) → all f (l ++ m) ≡ (all f l && all f m)
+pub all-append : {A : Type 0} (f : A → Bool) (l m : List A) → all f (l ++ m) ≡ (all f l && all f m)
 all-append f [] m = refl
 all-append f (x ∷ l) m = ap (λ b. f x && b) (all-append f l m) ∙ sym (and-assoc (f x) (all f l) (all f m))
 
@@ -328,31 +322,39 @@ module _ (m : Masks) (ops : List ℕ) (j : ℕ) (a : Action) (alike : ℕ) (T : 
       subst (λ n. Added m ops j a alike n T T′) e (g .added)
 
 -- ── all actions ──
--- where the loop over the actions is
-pub record AddingAll (m : Masks) (ops : List ℕ) (l : List Action) (taken : ℕ) (before after : List ℕ) (j : ℕ) : Type 0 where
-  pub bound : j ≤ taken
+-- where the loop over the actions is, which began at place `from`
+pub record AddingFrom (m : Masks) (ops : List ℕ) (l : List Action) (from to : ℕ) (before after : List ℕ) (j : ℕ) : Type 0 where
+  pub begun : from ≤ j
+  pub bound : j ≤ to
   pub lengths : length after ≡ length before
-  pub added : AddedAll m ops l (2 ^ j) after
+  pub added : (φ : Term) → Suited φ m ops → Known φ l before (2 ^ from) → Known φ l after (2 ^ j)
 
-module _ (m : Masks) (ops : List ℕ) (l : List Action) (taken : ℕ) (T : List ℕ) where
-  -- the empty set is entered
-  pub all-begin : (T₀ : List ℕ) → Entered m ops 0 0 4294967295 0 T₀ T → AddingAll m ops l taken T T 0
-  all-begin T₀ e = record {
+module _ (m : Masks) (ops : List ℕ) (l : List Action) (from to : ℕ) (T : List ℕ) where
+  pub from-begin : from ≤ to → AddingFrom m ops l from to T T from
+  from-begin h = record { begun = omega arith; bound = h; lengths = refl; added = λ φ u k. k }
+
+  pub from-turn : (T′ T″ : List ℕ) (j alike : ℕ) → AddingFrom m ops l from to T T′ j → j < to → j < length l → length T″ ≡ length T′
+      → AlikePlaces l j alike → Added m ops j (getD l j (record { user = 0; met = 0 })) alike (2 ^ (j + 1)) T′ T″ → AddingFrom m ops l from to T T″ (j + 1)
+  from-turn T′ T″ j alike f h b s w a = let begun = f .begun in record {
+    begun = omega arith;
     bound = omega arith;
-    lengths = refl;
-    added = λ φ u. e φ l u (pow-pos (length l))
-        (λ v. bit-of-zero v ∙ sym (ap (λ k. acts (λ (a : Action). a .user) v k) (select-none l)))
-        (λ i h. bit-ones 32 i ∙ lt-ltb i 32 h ∙ sym (ap (all (λ (a : Action). bit i (a .met))) (select-none l)))
-        (Perm·refl (select 0 l))
-        (λ x h. absurd (omega arith));
+    lengths = s ∙ f .lengths;
+    added = λ φ u k. a φ l u b refl w (f .added φ u k);
   }
 
-  pub all-turn : (T′ T″ : List ℕ) (j alike : ℕ) → AddingAll m ops l taken T T′ j → j < taken → j < length l → length T″ ≡ length T′
-      → AlikePlaces l j alike → Added m ops j (getD l j (record { user = 0; met = 0 })) alike (2 ^ (j + 1)) T′ T″ → AddingAll m ops l taken T T″ (j + 1)
-  all-turn T′ T″ j alike f h b s w a = record { bound = omega arith; lengths = s ∙ f .lengths; added = λ φ u. a φ l u b refl w (f .added φ u) }
+  pub from-end : (T₀ T′ : List ℕ) (j : ℕ) → Begun m ops from T₀ T → AddingFrom m ops l from to T T′ j → to ≤ j → AddedFrom m ops l from to T₀ T′
+  from-end T₀ T′ j b f h φ u k = let e : j ≡ to = omega (arith, f .bound) in subst (λ n. Known φ l T′ (2 ^ n)) e (f .added φ u (b φ l u k))
 
-  pub all-end : (T′ : List ℕ) (j : ℕ) → AddingAll m ops l taken T T′ j → taken ≤ j → AddedAll m ops l (2 ^ taken) T′
-  all-end T′ j f h = let e : j ≡ taken = omega (arith, f .bound) in subst (λ n. AddedAll m ops l (2 ^ n) T′) e (f .added)
+-- the empty set is entered, or something is already
+pub begun-empty : (m : Masks) (ops : List ℕ) (from : ℕ) (T₀ T : List ℕ) → from ≡ 0 → Entered m ops 0 0 4294967295 0 T₀ T → Begun m ops from T₀ T
+begun-empty m ops from T₀ T z e φ l u k = subst (λ n. Known φ l T (2 ^ n)) (sym z) (e φ l u (pow-pos (length l))
+    (λ v. bit-of-zero v ∙ sym (ap (λ k. acts (λ (a : Action). a .user) v k) (select-none l)))
+    (λ i h. bit-ones 32 i ∙ lt-ltb i 32 h ∙ sym (ap (all (λ (a : Action). bit i (a .met))) (select-none l)))
+    (Perm·refl (select 0 l))
+    (λ x h. absurd (omega arith)))
+
+pub begun-before : (m : Masks) (ops : List ℕ) (from : ℕ) (T : List ℕ) → 0 < from → Begun m ops from T T
+begun-before m ops from T h φ l u k = k h
 
 -- all sets entered and their rows written
 pub rows-stand : {m : Masks} {ops : List ℕ} {l : List Action} {sets before after : List ℕ} (n k : ℕ) → k ≡ n → AddedAll m ops l n sets → Written k sets before after

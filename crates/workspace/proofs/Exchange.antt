@@ -12,11 +12,12 @@ use lib.Dec.{eqb}
 use lib.ListN.{length, getD}
 use lib.Pow.{pow-mono, pow-lt}
 use Rattle.soda.specs.Bits.{bit, number}
+use Rattle.soda.specs.Lists.{range}
 use Rattle.soda.specs.Terms.{Term, size, termAt}
 use Rattle.soda.proofs.Bools.{not-so, and-split, and-join, or-split, so-eq}
 use Rattle.soda.proofs.Bits.{bit-suc, bit-of-zero, even, odd}
 use Rattle.soda.proofs.Orders.{order-plays-no-part, perm-last}
-use Rattle.workspace.specs.Workspace.{range, select, judged, rowOf}
+use Rattle.workspace.specs.Workspace.{select, judged, rowOf}
 use Rattle.workspace.specs.Private.{isAlike, AlikePlaces, Twin, itself, other-set, other-action}
 use Rattle.soda.specs.declared.Action.{Action}
 use Rattle.workspace.proofs.Digits.{bit-and, bit-or, bit-power}

@@ -12,3 +12,4 @@ pub mod Entries
 pub mod Columns
 pub mod Verdicts
 pub mod Fillable
+pub mod Trying

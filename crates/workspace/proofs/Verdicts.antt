@@ -24,7 +24,7 @@ all-ones n = let e : (2 ^ suc n - 1) / 1 % 2 ≡ 1 = omega (arith, pow-suc 2 n, 
 half-ones : (n : ℕ) → (2 ^ suc n - 1) / 2 ≡ 2 ^ n - 1
 half-ones n = omega (arith, pow-suc 2 n, pow-pos n)
 
-select-all : {A : Type 0} (l : List A) → select (2 ^ length l - 1) l ≡ l
+pub select-all : {A : Type 0} (l : List A) → select (2 ^ length l - 1) l ≡ l
 select-all [] = refl
 select-all (a ∷ l) = rw (all-ones (length l), half-ones (length l), select-all l)
 
@@ -33,7 +33,7 @@ abbrev verdictOf : Bool → Term → List Action → Bool
 verdictOf e φ l = bitTable (λ a. a .user) (λ a. a .met) e φ 0 l
 
 -- the row of all actions: bit 0 is the whole policy
-row-whole : (e : Bool) (φ : Term) (l : List Action) → bit 0 (rowOf e φ l (2 ^ length l - 1)) ≡ verdictOf e φ l
+pub row-whole : (e : Bool) (φ : Term) (l : List Action) → bit 0 (rowOf e φ l (2 ^ length l - 1)) ≡ verdictOf e φ l
 unfolding judged
 row-whole e φ l =
     let s = 2 ^ length l - 1 in

@@ -1,2 +1,3 @@
 pub mod Workspace
+pub mod Trials
 pub mod Private

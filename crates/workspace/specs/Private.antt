@@ -1,18 +1,20 @@
 -- What the fill's private functions compute: the digits of packed rows, the parts of a set, and what the table of sets holds.
 use mathlib.Core.Path.{_≡_}
 use mathlib.Core.Bool.{Bool, true, false, So, _&&_, _||_, cond}
-use mathlib.Core.List.{List, Perm}
+use mathlib.Core.List.{List, [], _∷_, _++_, Perm}
 use Prim.Native.Nat.{ℕ, suc, _+_, _-_, _*_, _/_, _%_, _^_, _≤_, _<_}
 use lib.Bits.{bitAnd, bitOr}
 use lib.Dec.{eqb}
-use lib.ListN.{length, getD}
+use lib.ListN.{length, getD, take}
 use Rattle.soda.specs.Bits.{bit}
 use Rattle.soda.specs.Lists.{all}
 use Rattle.soda.specs.Terms.{Term, together, apart, wellFormed, size, termAt}
-use Rattle.soda.specs.Tables.{acts}
+use Rattle.soda.specs.Tables.{acts, possible}
+use Rattle.policy.specs.Words.{decode, termOf}
 use Rattle.shape.specs.Shapes.{isOp, rightSides, termShape}
 use Rattle.shape.specs.declared.Shape.{Shape}
-use Rattle.workspace.specs.Workspace.{select, judged, rowOf}
+use Rattle.workspace.specs.Workspace.{select, judged, rowOf, isFilled, fillOf}
+use Rattle.workspace.specs.Trials.{actionBy, canAct}
 use Rattle.soda.specs.declared.Action.{Action}
 use Rattle.workspace.specs.declared.masks.Masks.{Masks}
 use Rattle.workspace.specs.declared.tables.Stored.{Stored}
@@ -230,6 +232,7 @@ pub record Entry (φ : Term) (l : List Action) (sets : List ℕ) (x : ℕ) : Typ
   pub sides : SidesAt φ l sets x
   pub noted : Noted (select x l) (metIn (noteAt sets x))
   pub twin : Perm (select (twinIn (noteAt sets x)) l) (select x l)
+  pub earlier : twinIn (noteAt sets x) ≤ x
   pub satisfied : satisfiedIn (leftAt sets x) ≡ rowOf false φ l x
   pub possible : possibleIn (leftAt sets x) ≡ rowOf true φ l x
 
@@ -258,6 +261,18 @@ abbrev pub Added : Masks → List ℕ → ℕ → Action → ℕ → ℕ → Lis
 Added m ops j a alike n sets sets′ =
     (φ : Term) (l : List Action) → Suited φ m ops → j < length l → getD l j (record { user = 0; met = 0 }) ≡ a → AlikePlaces l j alike
     → Known φ l sets (2 ^ j) → Known φ l sets′ n
+
+-- the actions from one place up to another are by users below 16
+abbrev pub UsersBetween : List Action → ℕ → ℕ → Type 0
+UsersBetween l from to = (k : ℕ) → from ≤ k → k < to → getD l k (record { user = 0; met = 0 }) .user < 16
+
+-- the sets of the first `from` actions are entered, where they were, or there are none but the empty one
+abbrev pub Begun : Masks → List ℕ → ℕ → List ℕ → List ℕ → Type 0
+Begun m ops from sets sets′ = (φ : Term) (l : List Action) → Suited φ m ops → (0 < from → Known φ l sets (2 ^ from)) → Known φ l sets′ (2 ^ from)
+
+-- and so are those of the first `to`
+abbrev pub AddedFrom : Masks → List ℕ → List Action → ℕ → ℕ → List ℕ → List ℕ → Type 0
+AddedFrom m ops l from to sets sets′ = (φ : Term) → Suited φ m ops → (0 < from → Known φ l sets (2 ^ from)) → Known φ l sets′ (2 ^ to)
 
 -- the sets below n of the actions l are entered
 abbrev pub AddedAll : Masks → List ℕ → List Action → ℕ → List ℕ → Type 0
@@ -291,3 +306,37 @@ pub record Shaped (p : Shape) : Type 0 where
   pub is : p ≡ termShape term
   pub formed : So (wellFormed term)
   pub short : size term ≤ 31
+
+-- ── users tried ──
+-- r is u, or a user above u who meets the same, where neither has acted
+pub data Like (met : List ℕ) (acted u : ℕ) : ℕ → Type 0 where
+  itself : Like met acted u u
+  another : {v : ℕ} → u < v → v < length met → getD met v 0 ≡ getD met u 0 → bit u acted ≡ false → bit v acted ≡ false → Like met acted u v
+
+-- r has the users of a mask, and u if so
+abbrev pub Marked : ℕ → ℕ → Bool → ℕ → Type 0
+Marked users u b r = (v : ℕ) → bit v r ≡ (bit v users || (eqb v u && b))
+
+-- whether the actions with one more by user u are possible, bit v for each user v above u known; and the table still has the sets below n
+abbrev pub Judges : Masks → List ℕ → List Action → ℕ → List ℕ → ℕ → ℕ → ℕ → List ℕ → List ℕ → Bool → Type 0
+Judges m ops l j met acted tried u sets sets′ r =
+    (φ : Term) → Suited φ m ops → Acting (take j l) acted → Known φ l sets (2 ^ j)
+    → ((v : ℕ) → u < v → v < length met → bit v tried ≡ possible φ 0 (take j l ++ (actionBy met v ∷ [])))
+    → (r ≡ possible φ 0 (take j l ++ (actionBy met u ∷ []))) × Known φ l sets′ (2 ^ j)
+
+-- the same by a trial
+abbrev pub Tries : Masks → List ℕ → List Action → ℕ → Action → List ℕ → List ℕ → Bool → Type 0
+Tries m ops l j a sets sets′ r = (φ : Term) → Suited φ m ops → Known φ l sets (2 ^ j) → (r ≡ possible φ 0 (take j l ++ (a ∷ []))) × Known φ l sets′ (2 ^ j)
+
+-- the last of the first n actions is by the last of the users, if there are any
+abbrev pub LastActs : List Action → ℕ → List ℕ → Type 0
+LastActs l n met = 0 < length met → (0 < n) × (getD l (n - 1) (record { user = 0; met = 0 }) ≡ actionBy met (length met - 1))
+
+-- the users who can act in place of the last of the first n actions
+abbrev pub TriesEach : Masks → List ℕ → List Action → ℕ → List ℕ → ℕ → Type 0
+TriesEach m ops l n met r = (φ : Term) → Suited φ m ops → LastActs l n met → r ≡ canAct φ (take (n - 1) l) met
+
+-- the workspace is filled, and users are tried so; where it is not filled, nobody is
+pub record FillsTrying (words : List ℕ) (l : List Action) (n : ℕ) (met before : List ℕ) (r : ℕ) (after : List ℕ) : Type 0 where
+  pub workspace : after ≡ fillOf words l n before
+  pub users : LastActs l n met → r ≡ cond (isFilled words l n before) (canAct (termOf (decode words)) (take (n - 1) l) met) 0

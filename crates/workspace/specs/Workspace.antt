@@ -3,22 +3,17 @@ use mathlib.Core.Path.{_≡_}
 use mathlib.Core.Bool.{Bool, true, false, So, _&&_, cond}
 use mathlib.Core.List.{List, [], _∷_, _++_, map}
 use mathlib.Core.Option.{Option, some, none}
-use Prim.Native.Nat.{ℕ, zero, suc, _+_, _-_, _/_, _^_, _≤_, _<_}
+use Prim.Native.Nat.{ℕ, _+_, _-_, _/_, _^_, _≤_, _<_}
 use lib.Dec.{leb, ltb}
 use lib.ListN.{length, getD, take, drop, replicate}
 use Rattle.soda.specs.Bits.{bit, number}
-use Rattle.soda.specs.Lists.{all}
+use Rattle.soda.specs.Lists.{all, range}
 use Rattle.soda.specs.Terms.{Term, wellFormed, size, termAt}
 use Rattle.soda.specs.Tables.{bitTable, satisfied, possible}
 use Rattle.policy.specs.Words.{decode, termOf}
 use Rattle.policy.specs.Reading.{lengthOk}
 use Rattle.policy.specs.Accepted.{IsPolicy}
 use Rattle.soda.specs.declared.Action.{Action}
-
--- the n numbers from i on
-abbrev pub range : ℕ → ℕ → List ℕ
-range i zero = []
-range i (suc n) = i ∷ range (suc i) n
 
 -- the actions of the set with mask s: bit j for the one at place j, from 0
 abbrev pub select {ℓ} : {A : Type ℓ} → ℕ → List A → List A
@@ -51,9 +46,11 @@ abbrev pub isFillable : Option Term → List Action → List ℕ → Bool
 isFillable none l workspace = false
 isFillable (some φ) l workspace = wellFormed φ && (all (λ a. ltb (a .user) 16) l && leb 8192 (length workspace))
 
+unfoldable pub isFilled : List ℕ → List Action → ℕ → List ℕ → Bool
+isFilled words actions n workspace = lengthOk (length words) && (leb n 12 && isFillable (decode words) (take n actions) workspace)
+
 unfoldable pub fillOf : List ℕ → List Action → ℕ → List ℕ → List ℕ
-fillOf words actions n workspace =
-    cond (lengthOk (length words) && (leb n 12 && isFillable (decode words) (take n actions) workspace)) (filled (termOf (decode words)) (take n actions) workspace) workspace
+fillOf words actions n workspace = cond (isFilled words actions n workspace) (filled (termOf (decode words)) (take n actions) workspace) workspace
 
 -- ── what is proved of it ──
 -- It fills for an accepted policy, at most twelve actions by users below 16, and a workspace that is long enough.

@@ -6,7 +6,7 @@ ghost use Prim.Native.Nat.{_+_, _*_, _≤_, _<_, _^_};
 ghost use lib.Dec.{ltb};
 ghost use lib.ListN.{length, take};
 ghost use Rattle.soda.specs.Lists.{all};
-ghost use Rattle.workspace.specs.Private.{Next, Coded, StoredOf, Entered, Added, AddedAll, Written, RowsStand};
+ghost use Rattle.workspace.specs.Private.{Next, Coded, StoredOf, Entered, Added, Begun, UsersBetween, AddedFrom, Written, RowsStand, TriesEach};
 use super::masks::Masks;
 use super::masks::possible_in;
 use super::masks::satisfied_in;
@@ -16,6 +16,7 @@ use super::notes::note_of;
 use super::notes::twin_in;
 use super::notes::users_in;
 use super::rows::row_of;
+use super::trials::try_each;
 use super::twins::alike_of;
 use super::twins::twin_of;
 use soda::Action;
@@ -93,14 +94,34 @@ fn add(m: Masks, ops: &[u16], j: usize, a: Action, alike: usize, sets: &mut [u64
     }
 }
 
-// Enters the empty set, then the sets of the first taken actions, action by action.
-fn add_all(m: Masks, ops: &[u16], actions: [Action; 12], taken: u8, sets: &mut [u64])
-    requires { ⌜ (taken ≤ 12) × (all (λ a. ltb (a .user) 16) (take taken actions) ≡ true) × Coded (now ops) × (3 * 2 ^ taken ≤ length (now sets)) ⌝ }
-    ensures { λ _. ⌜ AddedAll m (now (ops .entry)) actions (2 ^ taken) (now (sets .exit)) ⌝ }
+// Enters the empty set, where no set is entered yet. It is entered in one function with the others, so that compilers join `enter`
+// with both callers.
+fn enter_empty(m: Masks, ops: &[u16], from: usize, sets: &mut [u64])
+    requires { ⌜ Coded (now ops) × (3 ≤ length (now sets)) ⌝ }
+    ensures { λ _. ⌜ Begun m (now (ops .entry)) from (now (sets .entry)) (now (sets .exit)) ⌝ }
 {
-    enter(m, ops, 0, 0, 0, 0, 0xffff_ffff, sets);
-    let mut j: usize = 0;
-    while j < taken as usize {
+    if 0 < from {
+        return;
+    }
+    enter(m, ops, 0, 0, 0, 0, 0xffff_ffff, sets)
+}
+
+// Enters the sets of the actions up to a place, action by action, from another place on: the sets of the actions before that one are
+// entered already, if there are any.
+pub(crate) fn add_from(
+    m: Masks,
+    ops: &[u16],
+    actions: [Action; 12],
+    from: usize,
+    to: usize,
+    sets: &mut [u64],
+)
+    requires { ⌜ (from ≤ to) × (to ≤ 12) × UsersBetween actions from to × Coded (now ops) × (3 * 2 ^ to ≤ length (now sets)) ⌝ }
+    ensures { λ _. ⌜ AddedFrom m (now (ops .entry)) actions from to (now (sets .entry)) (now (sets .exit)) ⌝ }
+{
+    enter_empty(m, ops, from, sets);
+    let mut j = from;
+    while j < to {
         let a = actions[j];
         let alike = alike_of(actions, j);
         add(m, ops, j, a, alike, sets);
@@ -122,19 +143,21 @@ fn write_rows(sets: &[u64], n: usize, workspace: &mut [u32])
     }
 }
 
-// Enters all sets of the first taken actions, and writes their rows.
+// Enters all sets of the first taken actions, writes their rows, and tries users in place of the last action.
 pub(crate) fn fill_tables(
     m: Masks,
     ops: &[u16],
     actions: [Action; 12],
     taken: u8,
+    met: &[u32],
     sets: &mut [u64],
     workspace: &mut [u32],
-)
+) -> u16
     requires { ⌜ (taken ≤ 12) × (all (λ a. ltb (a .user) 16) (take taken actions) ≡ true) × Coded (now ops) × (3 * 2 ^ taken ≤ length (now sets))
-        × (8192 ≤ length (now workspace)) ⌝ }
-    ensures { λ _. ⌜ RowsStand m (now (ops .entry)) actions (2 ^ taken) (now (workspace .entry)) (now (workspace .exit)) ⌝ }
+        × (8192 ≤ length (now workspace)) × (length (now met) ≤ 16) ⌝ }
+    ensures { λ r. ⌜ RowsStand m (now (ops .entry)) actions (2 ^ taken) (now (workspace .entry)) (now (workspace .exit)) × TriesEach m (now (ops .entry)) actions taken (now (met .entry)) r ⌝ }
 {
-    add_all(m, ops, actions, taken, sets);
-    write_rows(sets, 1 << taken, workspace)
+    add_from(m, ops, actions, 0, taken as usize, sets);
+    write_rows(sets, 1 << taken, workspace);
+    try_each(m, ops, actions, taken, met, sets)
 }

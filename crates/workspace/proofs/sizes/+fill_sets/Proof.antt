@@ -15,17 +15,17 @@ use Rattle.workspace.proofs.tables.fill_tables.Reads as fill-tables
 use Rattle.workspace.proofs.sizes.+fill_sets.{statement}
 use Rattle.workspace.proofs.sizes.+fill_sets.Tie.{close}
 
-abbrev μ : Measures 2 kinds.ps ℕ
+abbrev μ : Measures 3 kinds.ps ℕ
 μ κs a = length (a .1 .0 .now)
 
 module _ (t : ℕ) where
-  abbrev at : In 2 kinds.ps
-  at = and 2 kinds.ps (is 2 kinds.ps μ t) fill-sets.Pre
+  abbrev at : In 3 kinds.ps
+  at = and 3 kinds.ps (is 3 kinds.ps μ t) fill-sets.Pre
 
   -- what the callees ask and ensure, with the call of itself below the measure t
   abbrev calls : lts.Claims
   calls = (
-    and 2 kinds.ps (falls 2 kinds.ps _<_ μ t) fill-sets.Pre,
+    and 3 kinds.ps (falls 3 kinds.ps _<_ μ t) fill-sets.Pre,
     fill-sets.Post,
     fill-tables.Asked,
     fill-tables.Learnt,
@@ -36,13 +36,13 @@ module _ (t : ℕ) where
   )
 
   never : lts.Then1 calls at fill-sets.Post → ⊥
-  never c = omega (arith, c .before .before .before .pre .1 .4, c .if1 .taken)
+  never c = omega (arith, c .before .before .before .before .pre .1 .5, c .if1 .taken)
 
   fill-tables-requires : lts.Need-fill-tables-requires calls at fill-sets.Post
   fill-tables-requires c κs =
       let four = c .before .before in
-      let p = four .before .before .before .before .pre .1 in
-      (p .0, p .1, p .2, long-blank 4 (four .if2 .taken), p .3)
+      let p = four .before .before .before .before .before .pre .1 in
+      (p .0, p .1, p .2, long-blank 4 (four .if2 .taken), p .3, p .4)
 
 pub +fill-sets-spec : {M : Type 1} → statement M
 +fill-sets-spec = close μ λ t. lts.spec (calls t) (at t) fill-sets.Post

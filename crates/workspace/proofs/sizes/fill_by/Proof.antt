@@ -12,7 +12,7 @@ use Rattle.workspace.proofs.sizes.fill_by.Tie as tie
 
 -- the start; where the workspace is cleared, the masks are made and the operators listed; and where all sets are entered
 abbrev start : tie.After-clear-arg → tie.Start
-start c = c .before .before
+start c = c .before .before .before
 
 abbrev cleared : tie.After-masks-of → tie.After-clear
 cleared c = c .before .before .before
@@ -51,7 +51,7 @@ fill-sets-requires c κs =
     let clear = cleared (masked (ops .before)) in
     let p = start (clear .before) .pre in
     let short = array-share-prefix-ops (c .before .before) in
-    (p .1, p .2, coded-take _ _ short (ops .operators .ensures), omega (arith, p .3, clear .clear .kept .0), omega (arith, slice-aggregate-fill-sets (c .before), ops .operators .ensures .bound))
+    (p .1, p .2, coded-take _ _ short (ops .operators .ensures), omega (arith, p .3, clear .clear .kept .0), p .4, omega (arith, slice-aggregate-fill-sets (c .before), ops .operators .ensures .bound))
 
 -- what is known where all sets are entered
 abbrev ops-listed : tie.After-slice-known3 → tie.After-operators
@@ -61,7 +61,7 @@ abbrev all-cleared : tie.After-slice-known3 → tie.After-clear
 all-cleared c = cleared (masked (ops-listed c .before))
 
 same-length : tie.Need-same-length
-same-length c = entered c .fill-sets .kept .1 .1 .1 .1 .0 ∙ all-cleared c .clear .kept .0
+same-length c = entered c .fill-sets .kept .1 .1 .1 .1 .1 .0 ∙ all-cleared c .clear .kept .0
 
 returns : tie.Need-returns
 returns c w =
@@ -70,9 +70,12 @@ returns c w =
     let n : length (a .actions) ≡ 12 = search needs in
     let masks = masked (ops-listed c .before) .masks-of in
     let ops = ops-listed c .operators in
-    whole-is (w .term) (a .actions) (a .taken) (a .workspace .now) _ (s .pre .1) (omega (arith, s .pre .1)) (s .pre .3) (same-length c)
-    (whole (w .term) (a .taken) (a .workspace .now) _ _ (s .pre .1) (all-cleared c .clear .ensures) (entered c .fill-sets .ensures)
-    (suited w (masks .result) (masks .ensures) _ (ops .result) (array-share-prefix-ops (entered c .before .before .before)) (ops .ensures)))
+    let of-policy = suited w (masks .result) (masks .ensures) _ (ops .result) (array-share-prefix-ops (entered c .before .before .before)) (ops .ensures) in
+    let done = entered c .fill-sets .ensures in (
+      whole-is (w .term) (a .actions) (a .taken) (a .workspace .now) _ (s .pre .1) (omega (arith, s .pre .1)) (s .pre .3) (same-length c)
+          (whole (w .term) (a .taken) (a .workspace .now) _ _ (s .pre .1) (all-cleared c .clear .ensures) (done .0) of-policy),
+      done .1 (w .term) of-policy,
+    )
 
 pub fill-by-spec : {M : Type 1} → statement M
 fill-by-spec =

@@ -24,7 +24,7 @@ returns c =
     let met-fits : a .met < 4294967296 = omega arith in
     subst (λ n. Entered (a .m) (a .ops .now) (a .s) (a .who) (a .met) (a .twin) (a .sets .now) (stored (a .sets .now) (a .s) (row .result .left) (row .result .right) n))
     (sym (c .note-of .ensures))
-    (entered (a .m) (a .ops .now) (a .s) (a .who) (a .met) (a .twin) (a .sets .now) (row .result) met-fits (omega (arith, p .0, p .1)) (p .4) (row .ensures))
+    (entered (a .m) (a .ops .now) (a .s) (a .who) (a .met) (a .twin) (a .sets .now) (row .result) met-fits (omega (arith, p .0, p .1)) (p .1) (p .4) (row .ensures))
 
 pub enter-spec : {M : Type 1} → statement M
 enter-spec =
