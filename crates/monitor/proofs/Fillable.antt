@@ -16,7 +16,7 @@ use Rattle.soda.proofs.Bools.{never, and-split, and-join, so-lt, lt-so}
 use Rattle.soda.proofs.Splits.{split-append, all-parts}
 use Rattle.policy.specs.Words.{decode}
 use Rattle.policy.specs.Reading.{lengthOk, isTerm, isFormed, unitsOf}
-use Rattle.workspace.specs.Workspace.{filled, isFillable, fillOf}
+use Rattle.workspace.specs.Workspace.{filled, isFillable, isFilled, fillOf}
 use Rattle.instance.specs.declared.Configuration.{Configuration}
 use Rattle.instance.specs.declared.Instance.{Instance}
 use Rattle.instance.specs.Instances.{policyOf, takenOf, term, withAction, actionOk}
@@ -36,6 +36,7 @@ fillable-term (some φ) l room h f a n =
 -- by its parts
 fillable : (i : Instance) (room : List ℕ) → i .words ≤ 31 → So (lengthOk (length (policyOf i))) → So (isTerm (decode (policyOf i)))
     → So (isFormed (decode (policyOf i))) → i .taken ≤ 12 → So (all known (takenOf i)) → 8192 ≤ length room → Fillable i room
+unfolding isFilled
 fillable i room w p t f k a n = record {
   words-most = w;
   fills =
@@ -68,6 +69,7 @@ module _ (c : Configuration) (i : Instance) (room : List ℕ) (k : Configuration
 -- what the condition says of the workspace and of the number of actions
 module _ (i : Instance) (room : List ℕ) (h : Fillable i room) where
   rest : So (leb (i .taken) 12) × So (isFillable (decode (policyOf i)) (takenOf i) room)
+  unfolding isFilled
   rest =
       let r = isFillable (decode (policyOf i)) (takenOf i) room in
       and-split (leb (i .taken) 12) r (and-split (lengthOk (length (policyOf i))) (leb (i .taken) 12 && r) (h .fills) .1)

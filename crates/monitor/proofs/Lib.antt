@@ -9,3 +9,5 @@ pub mod Order
 pub mod Preserved
 -- The workspace: when it is filled.
 pub mod Fillable
+-- Who may act.
+pub mod Enabling

@@ -1,6 +1,7 @@
 pub mod Monitors
 pub mod Events
 pub mod Statuses
+pub mod Enabled
 pub mod Runs
 -- What is proved of them.
 pub mod Laws

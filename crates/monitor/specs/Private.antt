@@ -1,16 +1,17 @@
 -- What the monitor's private functions ask for and give.
 use mathlib.Core.Path.{_≡_}
-use mathlib.Core.Bool.{Bool, So, _&&_, cond}
-use mathlib.Core.List.{List}
-use Prim.Native.Nat.{ℕ, _≤_, _<_}
-use lib.Dec.{leb, eqb}
+use mathlib.Core.Bool.{Bool, So, cond}
+use mathlib.Core.List.{List, map}
+use Prim.Native.Nat.{ℕ, _-_, _≤_, _<_}
+use lib.Dec.{ltb, eqb}
 use lib.ListN.{length}
+use Rattle.soda.specs.Bits.{number}
+use Rattle.soda.specs.Lists.{range}
 use Rattle.soda.specs.Tables.{satisfied, possible}
 use Rattle.policy.specs.Refusals.{code}
-use Rattle.policy.specs.Words.{decode}
-use Rattle.policy.specs.Reading.{lengthOk}
 use Rattle.units.specs.Units.{metOf}
-use Rattle.workspace.specs.Workspace.{filled, isFillable}
+use Rattle.workspace.specs.Workspace.{filled, isFilled}
+use Rattle.workspace.specs.Trials.{Trials}
 use Rattle.instance.specs.declared.Configuration.{Configuration}
 use Rattle.instance.specs.declared.Instance.{Instance}
 use Rattle.monitor.specs.declared.Monitor.{Monitor}
@@ -41,7 +42,14 @@ pub record Admits (m : Monitor) (n u : ℕ) (r : Admission) : Type 0 where
 -- the workspace can be filled for the taken actions
 pub record Fillable (i : Instance) (before : List ℕ) : Type 0 where
   pub words-most : i .words ≤ 31
-  pub fills : So (lengthOk (length (policyOf i)) && (leb (i .taken) 12 && isFillable (decode (policyOf i)) (takenOf i) before))
+  pub fills : So (isFilled (policyOf i) (i .actions) (i .taken) before)
+
+-- one more action by each user tried behind the taken ones: who can act, and the workspace that speaks of the last user's trial; twelve
+-- actions leave nobody, and the workspace as it was
+abbrev pub eachTried : Configuration → Instance → List ℕ → Trials
+eachTried c i before = cond (ltb (i .taken) 12)
+    (record { mask = number (map (λ u. possible (term i) 0 (tried c i u)) (range 0 (c .users))); workspace = filled (term i) (tried c i (c .users - 1)) before })
+    (record { mask = 0; workspace = before })
 
 -- the taken actions evaluated: what holds of them, and the workspace that speaks of them
 pub record Evaluated (i : Instance) (isSatisfied isPossible : Bool) (before after : List ℕ) : Type 0 where

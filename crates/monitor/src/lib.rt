@@ -1,8 +1,9 @@
-// The monitor of a quote by value: opening one, one event, and the status.
+// The monitor of a quote by value: opening one, one event, the status, and who may act.
 mod evaluation;
 mod events;
 mod monitors;
 mod steps;
+mod trials;
 
 use instance::Configuration;
 use instance::Instance;
@@ -36,5 +37,11 @@ pub enum Status {
     Closed,
     Complete,
     Open,
+    Refused(u8),
+}
+
+// Who may act (document 02: who may act, shown bright): a set of users, bit u for user u, or a refusal's number.
+pub enum Enabled {
+    Users(u16),
     Refused(u8),
 }
