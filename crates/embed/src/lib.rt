@@ -8,13 +8,15 @@ ghost use Rattle.monitor.specs.Events.{outcome};
 ghost use Rattle.monitor.specs.Statuses.{statusOf, statusNumber, letter};
 ghost use Rattle.multiset.specs.MultisetTest.{testOf, verdictNumber, verdictLetter, Numbered};
 ghost use Rattle.embed.specs.Bytes.{byteOf, statusByte, verdictByte};
+ghost use Rattle.embed.specs.Lent.{enabledLent};
 ghost use Rattle.embed.specs.Versions.{version, layout};
+use monitor::Enabled;
 use monitor::Monitor;
 use monitor::Status;
 use multiset::Verdict;
 
-// The version, 0.1.0: major, minor and patch number, a byte each.
-const VERSION: u32 = 0x000100;
+// The version, 0.2.0: major, minor and patch number, a byte each.
+const VERSION: u32 = 0x000200;
 
 // The number of the layout of what is lent: another one whenever a field of it comes, goes, moves or means something else.
 const LAYOUT: u32 = 2;
@@ -84,6 +86,37 @@ pub extern "C" fn oskhrein_status(monitor: &Monitor, workspace: &mut [u32]) -> u
 {
     let current = *monitor;
     status_of(current, workspace)
+}
+
+// An answer about users: the number, and the lent users as they are to be left.
+struct UsersAnswer {
+    code: u8,
+    users: u16,
+}
+
+// Who may act on a monitor by value; a refusal leaves the users as they were.
+fn enabled_of(monitor: Monitor, users: u16, workspace: &mut [u32]) -> UsersAnswer
+    ensures { λ r. ⌜ record { code = r .code; users = r .users; workspace = now (workspace .exit) } ≡ enabledLent monitor users (now (workspace .entry)) ⌝ }
+{
+    match monitor.enabled(workspace) {
+        Enabled::Users(mask) => UsersAnswer {
+            code: 0,
+            users: mask,
+        },
+        Enabled::Refused(code) => UsersAnswer { code, users },
+    }
+}
+
+// The users whose action would be accepted, bit u for user u. The monitor stays as it is, and after a refusal the users too.
+#[no_mangle]
+pub extern "C" fn oskhrein_enabled(monitor: &Monitor, workspace: &mut [u32], users: &mut u16) -> u8
+    ensures { λ r. ⌜ record { code = r; users = now (users .exit); workspace = now (workspace .exit) } ≡ enabledLent (now (monitor .entry)) (now (users .entry)) (now (workspace .entry)) ⌝ }
+{
+    let current = *monitor;
+    let before = *users;
+    let answer = enabled_of(current, before, workspace);
+    *users = answer.users;
+    answer.code
 }
 
 // Whether the multiset of users, each as often as its count says, satisfies the policy.

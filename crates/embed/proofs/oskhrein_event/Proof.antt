@@ -41,7 +41,7 @@ use Rattle.monitor.proofs.Answer.Laws as N′
 use Rattle.monitor.proofs.Monitor.event as event
 use Rattle.monitor.proofs.Monitor.event.Symbol as event-def
 use Rattle.monitor.proofs.Monitor.event.Met as event-thm
-use Rattle.embed.proofs.Walks.{mach, code-fits, monitor-is, opens-monitor, closes-monitor, local, sets, goes, answers, Spelling, spelled, Walk, proves}
+use Rattle.embed.proofs.Walks.{mach, monitor, code-fits, monitor-is, opens-ref, closes-ref, local, sets, goes, answers, Spelling, spelled, Walk, proves}
 use Rattle.embed.proofs.oskhrein_event as this
 use Rattle.embed.proofs.oskhrein_event.Key as key
 use Rattle.embed.proofs.oskhrein_event.Statement as stated
@@ -66,7 +66,7 @@ module _ {M : Type 1} (𝓤 : URA M) (H : Heap 𝓤) (A : Atoms 𝓤) (W : Given
   walk known κs qs bounds a g are =
       enter ! _ _ _ _ _ $ alloc1 ! (λ l₀. alloc1 ! (λ l₁. alloc1 ! (λ l₂. alloc1 ! (λ l₃. alloc1 ! (λ l₄. alloc1 ! (λ l₅. alloc1 ! (λ l₆. alloc1 ! (λ l₇. alloc0 ! $ params1 ! $
       pass1 ! (init ! 12 refl (tt, tt)) $ pass1 ! (init ! 10 refl (tt, record { fits = are .1 .0 .1 })) $ pass1 ! (init ! 8 refl (tt, (tt, (record { fits = are .1 .1 .0 .0 .1 .0 }, tt)))) $ pass0 ! $
-      move ! (17 ∷ 16 ∷ []) $ fsplit ! $ move ! (2 ∷ []) $ split ! $ move ! (2 ∷ 0 ∷ 3 ∷ 1 ∷ []) $ opens-monitor ! tt (a .0) (λ h.
+      move ! (17 ∷ 16 ∷ []) $ fsplit ! $ move ! (2 ∷ []) $ split ! $ move ! (2 ∷ 0 ∷ 3 ∷ 1 ∷ []) $ opens-ref monitor ! tt (a .0) (λ h.
       -- [the monitor's cell; the open borrow; what word and workspace own; the workspace's token; _7; …; _6; …; _5; …; _4; …; _3; …; _2; …; _1; …; room for _0; …]
       sets ! (of-opd ! (load ! (from ! (hop ! (look ! 16 refl) (stop !))) (look ! 0 refl))) 10 refl (LL.lawful I.the-type I′.the-laws 𝓤 H A W .typed (a .0 .now) _ h .0) $
       sets ! (addr ! (from ! (fld ! refl (hop ! (look-in ! 12 (sub ! 0 refl (whole !))) (stop !))))) 6 refl (tt, tt) $
@@ -83,7 +83,7 @@ module _ {M : Type 1} (𝓤 : URA M) (H : Heap 𝓤) (A : Atoms 𝓤) (W : Given
       land ! (from ! (stop !)) (init ! 9 refl (LL.lawful N.the-type N′.the-laws 𝓤 H A W .typed r _ is .0)) $
       assigns ! (of-opd ! (load ! (from ! (fld ! refl (stop !))) (look-in ! 9 (sub ! 1 refl (whole !))))) (from ! (hop ! (look ! 17 refl) (stop !))) (store ! 3 refl (LL.lawful I.the-type I′.the-laws 𝓤 H A W .typed (r .monitor) _ (monitor-is r is) .0)) $
       sets ! (of-opd ! (load ! (from ! (fld ! refl (stop !))) (look-in ! 9 (sub ! 0 refl (whole !))))) 19 refl (tt, record { fits = code-fits r is }) $
-      move ! (3 ∷ 4 ∷ []) $ closes-monitor ! tt (a .0) (r .monitor) (monitor-is r is) $
+      move ! (3 ∷ 4 ∷ []) $ closes-ref monitor ! tt (a .0) (r .monitor) (monitor-is r is) $
       -- [the monitor's borrow and token; the workspace's last list; true; the workspace's token; _7; …]
       returns ! (look ! 19 refl) $ goes ! 19 refl refl $ goes ! 17 refl refl $ goes ! 15 refl refl $ goes ! 13 refl refl $ goes ! 11 refl refl $ goes ! 9 refl refl $ goes ! 7 refl refl $ goes ! 5 refl refl $ free0 ! $
       suffices ! _ (ends-at 𝓤 H A this.ended stayed (this.clauses 𝓤 H A at-mem run) W ((κs, qs, bounds, a, spelled this.ended spells κs a), g) (vint w8 (r .code)) (r .code) (r .monitor, (tt, (ws .1 .1 .0, tt))) (tt, (tt, (l, tt)))) $ says ! e $

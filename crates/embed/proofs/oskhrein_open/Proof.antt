@@ -40,7 +40,7 @@ use Rattle.monitor.proofs.Answer.Laws as N′
 use Rattle.monitor.proofs.Monitor.open as open′
 use Rattle.monitor.proofs.Monitor.open.Symbol as open-def
 use Rattle.monitor.proofs.Monitor.open.Met as open-thm
-use Rattle.embed.proofs.Walks.{code-fits, monitor-is, opens-monitor, closes-monitor, local, sets, goes, answers, Spelling, spelled, Walk, proves}
+use Rattle.embed.proofs.Walks.{monitor, code-fits, monitor-is, opens-ref, closes-ref, local, sets, goes, answers, Spelling, spelled, Walk, proves}
 use Rattle.embed.proofs.oskhrein_open as this
 use Rattle.embed.proofs.oskhrein_open.Key as key
 use Rattle.embed.proofs.oskhrein_open.Statement as stated
@@ -74,11 +74,11 @@ module _ {M : Type 1} (𝓤 : URA M) (H : Heap 𝓤) (A : Atoms 𝓤) (W : Given
       heard ! (r ≡ opening (given (a .1 .0) (a .1 .1 .0) (a .1 .1 .1 .0 .now) (a .1 .1 .1 .1 .0 .now))) (λ e.
       -- [the slices' tokens; the last values; the monitor's token; its borrow; _6; …]
       move ! (1 ∷ []) $ drop ! $ land ! (from ! (stop !)) (init ! 3 refl (LL.lawful N.the-type N′.the-laws 𝓤 H A W .typed r _ is .0)) $
-      move ! (2 ∷ 1 ∷ []) $ opens-monitor ! tt (a .0) (λ h.
+      move ! (2 ∷ 1 ∷ []) $ opens-ref monitor ! tt (a .0) (λ h.
       -- [the monitor's cell; the open borrow; the slices' tokens; _6; …]
       assigns ! (of-opd ! (load ! (from ! (fld ! refl (stop !))) (look-in ! 3 (sub ! 1 refl (whole !))))) (from ! (hop ! (look ! 13 refl) (stop !))) (store ! 0 refl (LL.lawful I.the-type I′.the-laws 𝓤 H A W .typed (r .monitor) _ (monitor-is r is) .0)) $
       sets ! (of-opd ! (load ! (from ! (fld ! refl (stop !))) (look-in ! 3 (sub ! 0 refl (whole !))))) 15 refl (tt, record { fits = code-fits r is }) $
-      closes-monitor ! tt (a .0) (r .monitor) (monitor-is r is) $
+      closes-ref monitor ! tt (a .0) (r .monitor) (monitor-is r is) $
       -- [the monitor's borrow and token; the slices' tokens; _6; …]
       returns ! (look ! 15 refl) $ goes ! 15 refl refl $ goes ! 13 refl refl $ goes ! 11 refl refl $ goes ! 9 refl refl $ goes ! 7 refl refl $ goes ! 5 refl refl $ goes ! 3 refl refl $ free0 ! $
       suffices ! _ (ends-at 𝓤 H A this.ended stayed (this.clauses 𝓤 H A at-mem run) W ((κs, qs, bounds, a, spelled this.ended spells κs a), g) (vint w8 (r .code)) (r .code) (r .monitor, (tt, (tt, (tt, (tt, tt))))) (tt, (tt, (tt, (tt, (tt, tt)))))) $ says ! e $

@@ -39,7 +39,7 @@ use Rattle.monitor.proofs.Monitor.Laws as I′
 use Rattle.embed.proofs.status_of as status-of
 use Rattle.embed.proofs.status_of.Symbol as status-of-def
 use Rattle.embed.proofs.status_of.Met as status-of-thm
-use Rattle.embed.proofs.Walks.{mach, looks-monitor, shuts-monitor, local, sets, goes, answers, Spelling, spelled, Walk, proves}
+use Rattle.embed.proofs.Walks.{mach, monitor, looks-ref, shuts-ref, local, sets, goes, answers, Spelling, spelled, Walk, proves}
 use Rattle.embed.proofs.oskhrein_status as this
 use Rattle.embed.proofs.oskhrein_status.Key as key
 use Rattle.embed.proofs.oskhrein_status.Statement as stated
@@ -64,9 +64,9 @@ module _ {M : Type 1} (𝓤 : URA M) (H : Heap 𝓤) (A : Atoms 𝓤) (W : Given
   walk known κs qs bounds a g are =
       enter ! _ _ _ _ _ $ alloc1 ! (λ l₀. alloc1 ! (λ l₁. alloc1 ! (λ l₂. alloc1 ! (λ l₃. alloc1 ! (λ l₄. alloc1 ! (λ l₅. alloc0 ! $ params1 ! $
       pass1 ! (init ! 8 refl (tt, tt)) $ pass1 ! (init ! 6 refl (tt, (tt, (record { fits = are .1 .0 .0 .1 .0 }, tt)))) $ pass0 ! $
-      move ! (13 ∷ 12 ∷ []) $ fsplit ! $ move ! (2 ∷ []) $ split ! $ move ! (2 ∷ 0 ∷ 3 ∷ 1 ∷ []) $ looks-monitor ! tt (a .0) (λ p h.
+      move ! (13 ∷ 12 ∷ []) $ fsplit ! $ move ! (2 ∷ []) $ split ! $ move ! (2 ∷ 0 ∷ 3 ∷ 1 ∷ []) $ looks-ref monitor ! tt (a .0) (λ p h.
       -- [a share of the monitor's cell; what shuts the borrow; what workspace owns; the workspace's token; _5; …; _4; …; _3; …; _2; …; _1; …; room for _0; …]
-      sets ! (of-opd ! (load ! (from ! (hop ! (look ! 12 refl) (stop !))) (look ! 0 refl))) 8 refl (LL.lawful I.the-type I′.the-laws 𝓤 H A W .typed (a .0 .now) _ h .0) $ shuts-monitor ! tt p (a .0) h $
+      sets ! (of-opd ! (load ! (from ! (hop ! (look ! 12 refl) (stop !))) (look ! 0 refl))) 8 refl (LL.lawful I.the-type I′.the-laws 𝓤 H A W .typed (a .0 .now) _ h .0) $ shuts-ref monitor ! tt p (a .0) h $
       -- [the monitor's token; what workspace owns; the workspace's token; _5; …]
       sets ! (addr ! (from ! (fld ! refl (hop ! (look-in ! 9 (sub ! 0 refl (whole !))) (stop !))))) 5 refl (tt, tt) $
       sets ! (agg ! (and-then ! (local ! 5 refl) (and-then ! (load ! (from ! (fld ! refl (stop !))) (look-in ! 9 (sub ! 1 refl (whole !)))) (no-more !)))) 3 refl (tt, (tt, (record { fits = are .1 .0 .0 .1 .0 }, tt))) $
