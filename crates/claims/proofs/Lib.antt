@@ -8,5 +8,7 @@ pub mod Multisets
 -- Demand 3.
 pub mod Alike
 pub mod EqualForms
+-- The mask kept beside a monitor.
+pub mod KeptMask
 -- The settled examples.
 pub mod Examples

@@ -2,4 +2,5 @@ pub mod Runs
 pub mod Calls
 pub mod Accuracy
 pub mod EqualForms
+pub mod KeptMask
 pub mod Examples
