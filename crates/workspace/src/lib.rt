@@ -71,8 +71,8 @@ fn fill_trying(
 pub fn fill(words: &[u32], actions: [Action; 12], taken: u8, workspace: &mut [u32])
     ensures { λ _. ⌜ now (workspace .exit) ≡ fillOf (now (words .entry)) actions taken (now (workspace .entry)) ⌝ }
 {
-    let nobody = [0u32; 1];
-    fill_trying(words, actions, taken, &nobody[..0], workspace);
+    let nobody = &words[..0];
+    fill_trying(words, actions, taken, nobody, workspace);
 }
 
 // Which of the users who meet these unit terms, 1 to 16 of them, can act after the first taken actions: bit u for user u. The workspace
