@@ -21,7 +21,7 @@
 
 /* The version of this header. oskhrein_version gives that of the library: it is to be OSKHREIN_VERSION. */
 #define OSKHREIN_VERSION_MAJOR 0
-#define OSKHREIN_VERSION_MINOR 1
+#define OSKHREIN_VERSION_MINOR 2
 #define OSKHREIN_VERSION_PATCH 0
 #define OSKHREIN_VERSION (OSKHREIN_VERSION_MAJOR * 65536u + OSKHREIN_VERSION_MINOR * 256u + OSKHREIN_VERSION_PATCH)
 
@@ -219,6 +219,22 @@ uint8_t oskhrein_event(struct oskhrein_monitor *monitor, uint32_t word, uint32_t
  * Leaves the workspace filled for the taken actions; a refusal leaves it as it was. *monitor is only read.
  */
 uint8_t oskhrein_status(const struct oskhrein_monitor *monitor, uint32_t *workspace, size_t n_workspace);
+
+/*
+ * Who may act on a monitor: the users whose action oskhrein_event would answer with OSKHREIN_ACCEPTED now, whatever the action's
+ * number.
+ *
+ * Answers OSKHREIN_ACCEPTED, or the first that applies of OSKHREIN_WORKSPACE and OSKHREIN_MONITOR, as oskhrein_event does.
+ *
+ * Leaves a mask of users in *users, bit u for user u; bits from the number of users on are zero. It is 0 for a closed monitor and
+ * for one with twelve actions. A refusal leaves *users as it was. *monitor is only read.
+ *
+ * Leaves the workspace as oskhrein_event does for an action by the user with the highest number, whether or not that user may act. A
+ * closed monitor, one with twelve actions, and a refusal leave it as it was.
+ *
+ * A program that keeps the mask asks anew after each event answered 0; an event with any other answer leaves the mask right.
+ */
+uint8_t oskhrein_enabled(const struct oskhrein_monitor *monitor, uint32_t *workspace, size_t n_workspace, uint16_t *users);
 
 /*
  * Whether a multiset of users satisfies a policy: user u occurs counts[u] times. The empty multiset does not.

@@ -7,7 +7,7 @@ use reference::multiset;
 use reference::raw::{RawAction, RawInstance};
 use reference::search::Search;
 
-use crate::cases::{Case, Job};
+use crate::cases::{action, Case, Job};
 use crate::library::{Library, Stored};
 use crate::tuned::{self, Action, Configuration, Fill, Instance, Monitor};
 
@@ -21,6 +21,9 @@ pub trait Candidate {
 
     /// The workspace or output that the last run left, if the program fills it.
     fn words(&self) -> Option<&[u32]>;
+
+    /// The users that the last run named, bit u for user u, if it was asked who may act.
+    fn users(&self) -> u16;
 }
 
 /// A workspace. All begin at a page, since where they begin is not what is compared.
@@ -92,19 +95,20 @@ pub struct Proved<'a> {
     start: Stored,
     now: Stored,
     workspace: Box<Workspace>,
+    users: u16,
 }
 
 impl<'a> Proved<'a> {
     /// With the input of a case.
     pub fn new(case: &'a Case, library: &'a Library) -> Proved<'a> {
         let start = library.stored(&from_raw(&start(case)));
-        Proved { case, library, start, now: start, workspace: Workspace::new() }
+        Proved { case, library, start, now: start, workspace: Workspace::new(), users: 0 }
     }
 }
 
 impl Candidate for Proved<'_> {
     fn run(&mut self) -> u8 {
-        let Proved { case, library, start, now, workspace } = self;
+        let Proved { case, library, start, now, workspace, users: named } = self;
         let (users, roles) = (case.users(), case.roles());
         let (policy, rows) = (&case.policy.words[..], &case.policy.rows[..]);
         let workspace = &mut workspace.0[..];
@@ -115,6 +119,7 @@ impl Candidate for Proved<'_> {
                 library.event(now, *word, workspace)
             }
             Job::Status => library.status(now, workspace),
+            Job::Enabled => library.enabled(now, workspace, named),
             Job::Multiset(counts) => calls.satisfies(users, roles, policy, rows, counts, workspace),
             Job::NormalForm => calls.normal_form(users, roles, policy, workspace),
             Job::Open => library.open(now, users, roles, policy, rows),
@@ -128,6 +133,52 @@ impl Candidate for Proved<'_> {
     fn words(&self) -> Option<&[u32]> {
         Some(&self.workspace.0[..words_left(self.case)])
     }
+
+    fn users(&self) -> u16 {
+        self.users
+    }
+}
+
+/// Who may act by the library's events alone: each user's action is tried on a copy, the last user's
+/// last.
+pub struct Tried<'a> {
+    case: &'a Case,
+    library: &'a Library,
+    start: Stored,
+    workspace: Box<Workspace>,
+    users: u16,
+}
+
+impl<'a> Tried<'a> {
+    /// With the input of a case.
+    pub fn new(case: &'a Case, library: &'a Library) -> Tried<'a> {
+        let start = library.stored(&from_raw(&start(case)));
+        Tried { case, library, start, workspace: Workspace::new(), users: 0 }
+    }
+}
+
+impl Candidate for Tried<'_> {
+    fn run(&mut self) -> u8 {
+        self.users = 0;
+        for user in 0..self.case.users() {
+            let mut copy = self.start;
+            let number = self.library.event(&mut copy, action(user), &mut self.workspace.0);
+            self.users |= u16::from(number == 0) << user;
+        }
+        0
+    }
+
+    fn monitor(&self) -> Monitor {
+        self.library.monitor(&self.start)
+    }
+
+    fn words(&self) -> Option<&[u32]> {
+        Some(&self.workspace.0)
+    }
+
+    fn users(&self) -> u16 {
+        self.users
+    }
 }
 
 /// (b) The reference program's search: the answer alone, or the workspace too.
@@ -137,13 +188,14 @@ pub struct Searched<'a> {
     now: RawInstance,
     workspace: Box<Workspace>,
     fills: bool,
+    users: u16,
 }
 
 impl<'a> Searched<'a> {
     /// With the input of a case.
     pub fn new(case: &'a Case, fills: bool) -> Searched<'a> {
         let start = start(case);
-        Searched { case, start, now: start, workspace: Workspace::new(), fills }
+        Searched { case, start, now: start, workspace: Workspace::new(), fills, users: 0 }
     }
 
     /// The multiset test without a workspace.
@@ -160,6 +212,7 @@ impl Candidate for Searched<'_> {
         let (policy, rows) = (&self.case.policy.words[..], &self.case.policy.rows[..]);
         let workspace = &mut self.workspace.0[..];
         self.now = self.start;
+        self.users = 0;
         let number = |code: u32| code as u8;
         let letter = |letter: char| letter as u8;
         match (&self.case.job, self.fills) {
@@ -167,6 +220,10 @@ impl Candidate for Searched<'_> {
             (Job::Event(word), false) => number(self.now.step(*word).code),
             (Job::Status, true) => self.now.status(workspace).map_or_else(number, letter),
             (Job::Status, false) => self.now.letter().map_or_else(number, letter),
+            (Job::Enabled, fills) => {
+                self.users = tried(&self.now, fills.then_some(workspace));
+                0
+            }
             (Job::Multiset(counts), true) => {
                 let answer = multiset::multiset(users, roles, policy, rows, counts, workspace);
                 answer.map_or_else(number, verdict)
@@ -193,6 +250,23 @@ impl Candidate for Searched<'_> {
         let filled = self.fills || matches!(self.case.job, Job::NormalForm | Job::Open);
         filled.then_some(&self.workspace.0[..words_left(self.case)])
     }
+
+    fn users(&self) -> u16 {
+        self.users
+    }
+}
+
+/// Who may act on a well-formed instance by search: each user's action is tried, the last user's with
+/// the workspace, if there is one.
+fn tried(raw: &RawInstance, workspace: Option<&mut [u32]>) -> u16 {
+    let last = raw.users - 1;
+    let code = |user: usize| { *raw }.step(action(user as u8)).code;
+    let mask: u16 = (0..last).map(|user| u16::from(code(user) == 0) << user).sum();
+    let code = match workspace {
+        Some(workspace) => { *raw }.event(action(last as u8), workspace),
+        None => code(last),
+    };
+    mask | u16::from(code == 0) << last
 }
 
 /// (c) and (d): the hand-tuned program, with either way to fill the workspace.
@@ -202,19 +276,20 @@ pub struct Tuned<'a> {
     now: Monitor,
     workspace: Box<Workspace>,
     fill: Fill,
+    users: u16,
 }
 
 impl<'a> Tuned<'a> {
     /// With the input of a case.
     pub fn new(case: &'a Case, fill: Fill) -> Tuned<'a> {
         let start = from_raw(&start(case));
-        Tuned { case, start, now: start, workspace: Workspace::new(), fill }
+        Tuned { case, start, now: start, workspace: Workspace::new(), fill, users: 0 }
     }
 }
 
 impl Candidate for Tuned<'_> {
     fn run(&mut self) -> u8 {
-        let Tuned { case, start, now, workspace, fill } = self;
+        let Tuned { case, start, now, workspace, fill, users: named } = self;
         let (users, roles) = (case.users(), case.roles());
         let (policy, rows) = (&case.policy.words[..], &case.policy.rows[..]);
         let workspace = &mut workspace.0[..];
@@ -224,6 +299,10 @@ impl Candidate for Tuned<'_> {
                 byte(now.event(*word, workspace, *fill), |()| 0)
             }
             Job::Status => byte(now.status(workspace, *fill), |status| status.letter() as u8),
+            Job::Enabled => byte(now.enabled(workspace), |users| {
+                *named = users;
+                0
+            }),
             Job::Multiset(counts) => {
                 let declared = (users, roles);
                 let answer = tuned::satisfies(declared, policy, rows, counts, workspace, *fill);
@@ -242,6 +321,10 @@ impl Candidate for Tuned<'_> {
 
     fn words(&self) -> Option<&[u32]> {
         Some(&self.workspace.0[..words_left(self.case)])
+    }
+
+    fn users(&self) -> u16 {
+        self.users
     }
 }
 
@@ -278,6 +361,46 @@ mod tests {
                 assert_eq!(byte(got, |status| status.letter() as u8), letter, "{input:x?}");
                 assert_eq!(workspace, expected, "{input:x?}");
             }
+        }
+    }
+
+    /// Who may act as the reference finds it: 12, 15, nobody on a closed or full instance, else each
+    /// user tried.
+    fn enabled(raw: &RawInstance, workspace: &mut [u32]) -> Result<u16, u8> {
+        let refused = |code: &u32| [12, 15].contains(code);
+        let code = { *raw }.event(action(0), &mut workspace.to_vec());
+        match Some(code).filter(refused) {
+            Some(code) => Err(code as u8),
+            None if raw.closed != 0 || raw.count == 12 => Ok(0),
+            None => Ok(tried(raw, Some(workspace))),
+        }
+    }
+
+    #[test]
+    fn tuned_code_tells_who_may_act_as_the_reference_does() {
+        let mut random = Random::new(24);
+        let edges = event_edges(&mut random).into_iter().map(|(_, input)| input);
+        let mut inputs: Vec<EventInput> = edges.collect();
+        inputs.extend((0..1200).map(|_| event_input(&mut random)));
+        let mut seen = [0; 3];
+        for EventInput { instance: raw, workspace, .. } in inputs {
+            let mut expected = vec![7; workspace];
+            let mut lent = expected.clone();
+            let answer = enabled(&raw, &mut expected);
+            let got = from_raw(&raw).enabled(&mut lent).map_err(Refusal::number);
+            assert_eq!((got, lent), (answer, expected), "{raw:x?}");
+            seen[answer.map_or(0, |users| if users == 0 { 1 } else { 2 })] += 1;
+        }
+        assert!(seen.iter().all(|count| *count > 20), "{seen:?}");
+    }
+
+    #[test]
+    fn tuned_code_tells_who_may_act_in_every_row() {
+        for case in crate::cases::enabled() {
+            let raw = start(&case);
+            let mut workspace = vec![7; tuned::WORDS];
+            let got = from_raw(&raw).enabled(&mut workspace);
+            assert_eq!(got, Ok(tried(&raw, None)), "{:?}", case.name());
         }
     }
 

@@ -1,6 +1,9 @@
 //! The inputs: policies, taken actions, and what is asked.
 
+use std::collections::BTreeSet;
+
 use oskhrein::Event;
+use reference::policy::{met_bits, ones, read_term};
 
 /// Kinds of policy words.
 const EVERYONE: u32 = 1 << 24;
@@ -28,6 +31,8 @@ pub enum Job {
     Event(u32),
     /// The status.
     Status,
+    /// Who may act.
+    Enabled,
     /// Whether the multiset with these counts satisfies the policy.
     Multiset([u8; 16]),
     /// The normal form of the policy.
@@ -47,14 +52,14 @@ pub struct Policy {
     pub rows: Vec<u16>,
 }
 
-/// One row of the table.
+/// One row of a table.
 #[derive(Clone)]
 pub struct Case {
     /// What is measured.
-    pub what: &'static str,
+    pub what: String,
     /// The policy.
     pub policy: Policy,
-    /// How many actions are judged.
+    /// How many actions are judged; for a grant and for who may act, how many are taken.
     pub actions: usize,
     /// How many users act.
     pub acting: usize,
@@ -150,11 +155,35 @@ impl Case {
             }
             "event: grant" => Job::Event(Event::Grant { user: 0, role: ROLES - 1 }.word()),
             "status" => Job::Status,
+            "enabled" => Job::Enabled,
             "multiset" => Job::Multiset(counts),
             "normal form" => Job::NormalForm,
             _ => Job::Open,
         };
-        Case { what, policy, actions, acting: acting.min(actions), taken: users, job }
+        let (what, acting) = (what.to_string(), acting.min(actions));
+        Case { what, policy, actions, acting, taken: users, job }
+    }
+
+    /// Who may act after so many actions, by so many users in turn.
+    fn enabled(policy: Policy, actions: usize, acting: usize) -> Case {
+        let case = Case::new("enabled", policy, actions, acting);
+        Case { what: format!("enabled: {} kinds", case.kinds()), ..case }
+    }
+
+    /// The same case with an action by the last user asked for.
+    pub fn last_action(&self) -> Case {
+        Case { job: Job::Event(action(USERS - 1)), ..self.clone() }
+    }
+
+    /// How many kinds of users there are: each who has acted is one, and so are all others for whom
+    /// the same would be noted.
+    pub fn kinds(&self) -> usize {
+        let Policy { words, rows, .. } = &self.policy;
+        let term = read_term(USERS.into(), ROLES.into(), words).expect("it is accepted");
+        let others = (0..USERS).filter(|user| !self.taken.contains(user)).map(usize::from);
+        let noted: BTreeSet<u32> =
+            others.map(|user| met_bits(&term, user, &ones(rows[user]))).collect();
+        self.acting + noted.len()
     }
 
     /// How many users are declared.
@@ -170,18 +199,14 @@ impl Case {
     /// Its name: what is asked, the policy, its words, the actions and the users who act.
     pub fn name(&self) -> [String; 5] {
         let Case { what, policy, actions, acting, .. } = self;
-        [*what, policy.name]
-            .map(str::to_string)
-            .into_iter()
-            .chain([policy.words.len(), *actions, *acting].map(|number| number.to_string()))
-            .collect::<Vec<_>>()
-            .try_into()
-            .expect("five parts")
+        let [words, actions, acting] =
+            [policy.words.len(), *actions, *acting].map(|number| number.to_string());
+        [what.clone(), policy.name.to_string(), words, actions, acting]
     }
 }
 
 /// The word of an action.
-fn action(user: u8) -> u32 {
+pub fn action(user: u8) -> u32 {
     Event::Action { user, number: 0 }.word()
 }
 
@@ -211,8 +236,85 @@ fn as_written() -> Vec<Case> {
     cases
 }
 
-/// All rows of the table; in each family the cases with more actions come later.
+/// The roles that users hold in turn where all are alike, where they are of three kinds, and where
+/// as many differ as the policy tells apart. The last user holds some role that it asks for.
+struct Staff {
+    alike: u16,
+    three: [u16; 3],
+    different: [u16; USERS as usize],
+}
+
+/// Under policies made to measure: all roles; one of three and one more; any of roles 0 to 3, each
+/// with the one four above it.
+const MADE: Staff = Staff {
+    alike: 0xff,
+    three: [0x09, 0x12, 0x24],
+    different: [
+        0xff, 0xee, 0xdd, 0xcc, 0xbb, 0xaa, 0x99, 0x88, 0x77, 0x66, 0x55, 0x44, 0x22, 0x11, 0x00,
+        0x33,
+    ],
+};
+
+/// Under the licensee's: clerks, pricers, managers and accountants, lawyers too, nobody external.
+const LICENSED: Staff = Staff {
+    alike: 0x0f,
+    three: [0x01, 0x02, 0x04],
+    different: [
+        0x01, 0x02, 0x04, 0x10, 0x08, 0x03, 0x05, 0x09, 0x11, 0x06, 0x0a, 0x12, 0x0c, 0x14, 0x18,
+        0x07,
+    ],
+};
+
+/// How many actions are taken when it is asked who may act.
+const TAKEN: [usize; 4] = [1, 4, 8, 11];
+
+/// Who may act under a policy, by how many users act and how far the users differ.
+fn by_kinds(policy: &Policy, staff: &Staff) -> Vec<Case> {
+    let Staff { alike, three, different } = staff;
+    let (alike, three, different) = (&[*alike][..], &three[..], &different[..]);
+    let mut cases = Vec::new();
+    for (least, acting, roles) in [(1, 1, alike), (1, 1, three), (3, 3, alike), (1, 11, different)]
+    {
+        let policy = written(policy.name, &policy.words, roles);
+        for taken in TAKEN.into_iter().filter(|taken| *taken >= least) {
+            cases.push(Case::enabled(policy.clone(), taken, acting));
+        }
+    }
+    cases
+}
+
+/// Who may act where all users differ and the last one, by whose action an event is measured, holds
+/// no role.
+fn outsider_last(policy: &Policy, staff: &Staff) -> Vec<Case> {
+    let mut roles = staff.different;
+    roles[14..].rotate_left(1);
+    let policy = written(policy.name, &policy.words, &roles);
+    let what = "enabled: outsider last".to_string();
+    let case = |taken| Case { what: what.clone(), ..Case::enabled(policy.clone(), taken, 11) };
+    TAKEN.map(case).into()
+}
+
+/// The rows of the table of who may act.
+pub fn enabled() -> Vec<Case> {
+    let mut cases = by_kinds(&licensee(), &LICENSED);
+    for operator in [TOGETHER, APART] {
+        for words in [3, 10, 31] {
+            cases.extend(by_kinds(&made(operator, words), &MADE));
+        }
+    }
+    for operator in [TOGETHER, APART] {
+        cases.extend(outsider_last(&made(operator, 31), &MADE));
+    }
+    cases
+}
+
+/// The rows of all tables.
 pub fn all() -> Vec<Case> {
+    [calls(), enabled()].concat()
+}
+
+/// The rows of the table of calls; in each family the cases with more actions come later.
+pub fn calls() -> Vec<Case> {
     let mut cases = as_written();
     for operator in [TOGETHER, APART] {
         for words in [3, 10, 31] {

@@ -82,13 +82,30 @@ extern "C" {
     fn dlsym(library: *mut c_void, name: *const c_char) -> *mut c_void;
 }
 
+/// The call that an early build lacks.
+const ENABLED: &str = "oskhrein_enabled";
+
 /// What an early build says of itself.
 extern "C" fn unknown() -> u32 {
     0
 }
 
-/// The calls of a shared library, which stays open.
-fn load(path: &str) -> Result<Calls, String> {
+/// Who may act, by an early build: it is not asked.
+extern "C" fn unasked(_: *const raw::Monitor, _: *mut u32, _: usize, _: *mut u16) -> u8 {
+    u8::MAX
+}
+
+/// What stands in for a function that an early build lacks.
+fn stand_in(name: &str) -> Option<NonNull<c_void>> {
+    match name {
+        "oskhrein_version" | "oskhrein_layout" => NonNull::new(unknown as *mut c_void),
+        ENABLED => NonNull::new(unasked as *mut c_void),
+        _ => None,
+    }
+}
+
+/// The calls of a shared library, which stays open, and whether it tells who may act.
+fn load(path: &str) -> Result<(Calls, bool), String> {
     const NOW: c_int = 2;
     let name = CString::new(path).map_err(|error| error.to_string())?;
     // SAFETY: the name ends in a zero byte.
@@ -96,16 +113,16 @@ fn load(path: &str) -> Result<Calls, String> {
     if library.is_null() {
         return Err(format!("{path} is no shared library that can be opened"));
     }
-    let find = |name: &str| {
+    let own = |name: &str| {
         let text = CString::new(name).ok()?;
         // SAFETY: the library is open, and the name ends in a zero byte.
-        let found = NonNull::new(unsafe { dlsym(library, text.as_ptr()) });
-        let of_itself = matches!(name, "oskhrein_version" | "oskhrein_layout");
-        found.or(if of_itself { NonNull::new(unknown as *mut c_void) } else { None })
+        NonNull::new(unsafe { dlsym(library, text.as_ptr()) })
     };
+    let find = |name: &'static str| own(name).or_else(|| stand_in(name));
     // SAFETY: it is an earlier build of the linked library; what stands in for what it lacks has the
     // same type.
-    unsafe { Calls::loaded(find) }.map_err(|name| format!("{path} has no {name}"))
+    let calls = unsafe { Calls::loaded(find) }.map_err(|name| format!("{path} has no {name}"))?;
+    Ok((calls, own(ENABLED).is_some()))
 }
 
 /// A build of the library.
@@ -113,26 +130,28 @@ fn load(path: &str) -> Result<Calls, String> {
 pub struct Library {
     calls: Calls,
     layout: Layout,
+    tells_enabled: bool,
 }
 
 impl Library {
     /// The one that is linked.
     pub fn linked() -> Result<Library, String> {
-        Library::new(Calls::LINKED)
+        Library::new(Calls::LINKED, true)
     }
 
     /// The one in a shared library.
     pub fn loaded(path: &str) -> Result<Library, String> {
-        Library::new(load(path)?)
+        let (calls, tells_enabled) = load(path)?;
+        Library::new(calls, tells_enabled)
     }
 
     /// The library with these calls. Its layout is the one in which it opens a monitor.
-    fn new(calls: Calls) -> Result<Library, String> {
+    fn new(calls: Calls, tells_enabled: bool) -> Result<Library, String> {
         let (policy, rows) = ([9 << 24, 1 << 24, 1 << 24], [1, 2, 4]);
         let mut expected = Monitor::default();
         expected.open(3, 4, &policy, &rows).map_err(|refusal| refusal.to_string())?;
         for layout in LAYOUTS {
-            let library = Library { calls, layout };
+            let library = Library { calls, layout, tells_enabled };
             let mut stored = Stored([0; 260]);
             library.open(&mut stored, 3, 4, &policy, &rows);
             if library.monitor(&stored) == expected {
@@ -172,6 +191,16 @@ impl Library {
     /// The status.
     pub fn status(&self, stored: &mut Stored, workspace: &mut [u32]) -> u8 {
         self.calls.status(raw_mut(stored), workspace)
+    }
+
+    /// Who may act. A library that does not tell answers no number.
+    pub fn enabled(&self, stored: &mut Stored, workspace: &mut [u32], users: &mut u16) -> u8 {
+        self.calls.enabled(raw_mut(stored), workspace, users)
+    }
+
+    /// Whether it tells who may act.
+    pub fn tells_enabled(&self) -> bool {
+        self.tells_enabled
     }
 
     /// The calls that are lent no monitor.

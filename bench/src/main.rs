@@ -5,15 +5,18 @@
 //! - (c) the library's table tuned by hand;
 //! - (d) one table a term.
 //!
+//! Who may act has a table of its own, where one event and a trial for each user stand beside it.
+//!
 //! Before a case is timed, all of them must agree on the answer and the monitor, and those that
 //! fill the workspace on every word of it. Times are for reading; nothing passes or fails by them.
 //!
-//! `bench rows` lists the rows, `bench time ROW..` times some of them without (b) and (d), and
-//! `bench repeat ROW CANDIDATE RUNS` does one of them so often, for a program that counts
-//! instructions.
+//! `bench enabled` prints the table of who may act alone, `bench rows` lists the rows of all tables,
+//! `bench time ROW..` times some of them without (b) and (d), and `bench repeat ROW CANDIDATE RUNS`
+//! does one of them so often, for a program that counts instructions.
 
 mod candidates;
 mod cases;
+mod enabled;
 mod growth;
 mod library;
 mod report;
@@ -22,13 +25,14 @@ mod tuned;
 
 use std::process::ExitCode;
 
-use candidates::{Candidate, Proved, Searched, Tuned};
-use cases::Case;
+use candidates::{Candidate, Proved, Searched, Tried, Tuned};
+use cases::{Case, Job};
 use library::Library;
 use report::Row;
 
 /// What the program can do.
 const USAGE: &str = "usage: bench
+       bench enabled
        bench rows
        bench time ROW..
        bench repeat ROW CANDIDATE RUNS";
@@ -46,22 +50,32 @@ impl Builds {
         Ok(Builds { linked: Library::linked()?, earlier })
     }
 
-    /// The library in a case, tuned code beside it, and the earlier build, if there is one.
+    /// The library in a case, tuned code beside it, and the earlier build, if there is one that has
+    /// the call.
     fn main_candidates<'a>(&'a self, case: &'a Case) -> Vec<Box<dyn Candidate + 'a>> {
         let mut all: Vec<Box<dyn Candidate + 'a>> = vec![
             Box::new(Proved::new(case, &self.linked)),
             Box::new(Tuned::new(case, tuned::rows::fill)),
         ];
-        if let Some(earlier) = &self.earlier {
+        let asked = matches!(case.job, Job::Enabled);
+        if let Some(earlier) = self.earlier.as_ref().filter(|own| !asked || own.tells_enabled()) {
             all.push(Box::new(Proved::new(case, earlier)));
         }
         all
     }
 
+    /// The simple way to do a case.
+    fn simple<'a>(&'a self, case: &'a Case) -> Box<dyn Candidate + 'a> {
+        match case.job {
+            Job::Enabled => Box::new(Tried::new(case, &self.linked)),
+            _ => Box::new(Tuned::new(case, tuned::by_term::fill)),
+        }
+    }
+
     /// All candidates of a case.
     fn candidates<'a>(&'a self, case: &'a Case) -> Vec<Box<dyn Candidate + 'a>> {
         let mut all: Vec<Box<dyn Candidate + 'a>> = vec![
-            Box::new(Tuned::new(case, tuned::by_term::fill)),
+            self.simple(case),
             Box::new(Searched::new(case, false)),
             Box::new(Searched::new(case, true)),
         ];
@@ -75,17 +89,18 @@ fn agree(case: &Case, all: &mut [Box<dyn Candidate + '_>]) {
     let answers: Vec<u8> = all.iter_mut().map(|candidate| candidate.run()).collect();
     let name = case.name().join(", ");
     assert!(answers.iter().all(|answer| *answer == answers[0]), "{name}: answers {answers:?}");
-    let monitor = all[0].monitor();
+    let (monitor, users) = (all[0].monitor(), all[0].users());
     let words: Vec<&[u32]> = all.iter().filter_map(|candidate| candidate.words()).collect();
     assert!(all.iter().all(|candidate| candidate.monitor() == monitor), "{name}: monitors");
     assert!(words.iter().all(|own| *own == words[0]), "{name}: workspaces");
+    assert!(all.iter().all(|candidate| candidate.users() == users), "{name}: users");
 }
 
-/// Prints the whole table and how the cost grows.
+/// Prints both tables and how the cost grows.
 fn print(builds: &Builds) {
     report::head(builds.earlier.is_some());
     let mut rows = Vec::new();
-    let cases = cases::all();
+    let cases = cases::calls();
     timing::warm_up(&mut builds.candidates(&cases[0]));
     for case in cases {
         let mut all = builds.candidates(&case);
@@ -96,6 +111,13 @@ fn print(builds: &Builds) {
     }
     report::foot(&rows);
     growth::print(builds);
+    enabled::print(builds);
+}
+
+/// Prints the table of who may act alone.
+fn print_enabled(builds: &Builds) {
+    timing::warm_up(&mut builds.main_candidates(&cases::calls()[0]));
+    enabled::print(builds);
 }
 
 /// A number from the command line.
@@ -137,6 +159,7 @@ fn time(builds: &Builds, row: &str) -> Result<(), String> {
 fn run(arguments: &[&str]) -> Result<(), String> {
     match arguments {
         [] => print(&Builds::new()?),
+        ["enabled"] => print_enabled(&Builds::new()?),
         ["rows"] => {
             for (row, case) in cases::all().iter().enumerate() {
                 println!("{row} | {}", case.name().join(" | "));

@@ -15,7 +15,7 @@ pub struct Row {
 }
 
 /// A time with its unit.
-fn time(timed: &Timed) -> String {
+pub fn time(timed: &Timed) -> String {
     let mark = if timed.is_slow() { "\\*" } else { "" };
     match timed.best() {
         best if best < 1e4 => format!("{best:.0} ns{mark}"),

@@ -65,6 +65,15 @@ pub struct Monitor {
     pub instance: Instance,
 }
 
+/// An action that is tried after the taken ones.
+#[derive(Clone, Copy)]
+pub struct Trial {
+    /// The action.
+    pub action: Action,
+    /// The users whose action would have the same answer.
+    pub users: u16,
+}
+
 /// Fills a workspace for some actions.
 pub type Fill = fn(&Shape, &[Action], &mut [u32; WORDS]);
 
@@ -222,6 +231,48 @@ impl Monitor {
             _ => Status::Closed,
         })
     }
+
+    /// Who may act, bit u for user u, or 12 or 15.
+    pub fn enabled(&self, workspace: &mut [u32]) -> Result<u16, Refusal> {
+        let workspace = lent(workspace)?;
+        let Monitor { configuration: Configuration { user_roles, users, .. }, instance } = self;
+        let mut all = All::new(user_roles, first_users(*users));
+        let shape = self.check(&mut all).ok_or(Refusal::Monitor)?;
+        let taken = instance.taken();
+        if instance.closed != 0 || taken.len() == instance.actions.len() {
+            return Ok(0);
+        }
+        let (trials, count) = trials(*users, taken, &all, &shape);
+        Ok(rows::try_each(&shape, taken, &trials[..count], workspace))
+    }
+}
+
+/// The first so many users, as a mask.
+#[inline]
+fn first_users(users: u16) -> u32 {
+    (1 << users.min(16)) - 1
+}
+
+/// The actions to try for so many users, and how many they are. One serves all users of a kind: those
+/// who have not acted and for whom the same is noted. The last user's comes last, since the workspace
+/// is to speak of it.
+#[inline]
+fn trials(users: u16, taken: &[Action], all: &All, shape: &Shape) -> ([Trial; 16], usize) {
+    let acted = taken.iter().fold(0, |acted, action| acted | 1u32 << (action.user & 15));
+    let others = first_users(users) & !acted;
+    let trial = |user: u32| {
+        let kind = if acted >> user & 1 == 1 { 1 << user } else { all.like(user, shape) & others };
+        Trial { action: Action { user, met: all.met(user, shape) }, users: kind as u16 }
+    };
+    let last = trial(u32::from(users) - 1);
+    let (mut trials, mut count) = ([last; 16], 0);
+    let mut left = first_users(users) & !u32::from(last.users);
+    while left != 0 {
+        trials[count] = trial(left.trailing_zeros());
+        left &= !u32::from(trials[count].users);
+        count += 1;
+    }
+    (trials, count + 1)
 }
 
 /// The users with a count above 0, as a mask, and the sum of the counts.

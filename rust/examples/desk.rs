@@ -1,21 +1,45 @@
 //! A quote under "one counts, another approves": apart(role 0, role 1).
 
-use oskhrein::{Event, Monitor, Refusal, Term, Workspace};
+use oskhrein::{Event, Monitor, Refusal, Term, Users, Workspace};
 
-/// The number with which an action of this user is answered.
-fn act(quote: &mut Monitor, user: u8, workspace: &mut Workspace) -> u8 {
-    let action = Event::Action { user, number: 0 };
-    quote.event(action, workspace).map_or_else(Refusal::number, |()| 0)
+/// A quote as the desk keeps it: the monitor, and beside it who may act.
+struct Quote {
+    monitor: Monitor,
+    enabled: Users,
+}
+
+impl Quote {
+    /// The number with which an action of this user is answered. Who may act is asked anew after 0;
+    /// any other answer leaves it right.
+    fn act(&mut self, user: u8, workspace: &mut Workspace) -> Result<u8, Refusal> {
+        let action = Event::Action { user, number: 0 };
+        if let Err(refusal) = self.monitor.event(action, workspace) {
+            return Ok(refusal.number());
+        }
+        self.enabled = self.monitor.enabled(workspace)?;
+        Ok(0)
+    }
+
+    fn show(&self) {
+        let users: String = self.enabled.iter().map(|user| format!(" {user}")).collect();
+        println!("may act:{users}");
+    }
 }
 
 fn main() -> Result<(), Refusal> {
     let policy = Term::apart(Term::role(0)?, Term::role(1)?)?;
     let roles = [1 << 0, 1 << 0 | 1 << 1]; // user 0 counts; user 1 counts and approves
     let mut workspace = Workspace::new();
-    let mut quote = Monitor::open(2, 2, policy.words(), &roles)?;
-    println!("user 1 acts: {}", act(&mut quote, 1, &mut workspace));
-    println!("user 1 acts again: {}", act(&mut quote, 1, &mut workspace));
-    println!("user 0 acts: {}", act(&mut quote, 0, &mut workspace));
-    println!("status: {}", quote.status(&mut workspace)?);
+    let monitor = Monitor::open(2, 2, policy.words(), &roles)?;
+    let enabled = monitor.enabled(&mut workspace)?;
+    let mut quote = Quote { monitor, enabled };
+    quote.show();
+    println!("user 1 acts: {}", quote.act(1, &mut workspace)?);
+    quote.show();
+    println!("user 1 acts again: {}", quote.act(1, &mut workspace)?);
+    quote.show();
+    println!("user 0 acts: {}", quote.act(0, &mut workspace)?);
+    quote.show();
+    println!("status: {}", quote.monitor.status(&mut workspace)?);
     Ok(())
 }

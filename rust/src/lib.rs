@@ -1,8 +1,9 @@
 //! A safe interface to Oskhrein, the proved separation-of-duty monitor.
 //!
 //! A [`Monitor`] follows one run under a policy. It takes an action by a user or turns it away, lets
-//! roles be granted and withdrawn, and is closed once its actions satisfy the policy; [`satisfies`]
-//! asks about a multiset of users instead, and [`normal_form`] writes a policy in its normal form.
+//! roles be granted and withdrawn, tells who may act next, and is closed once its actions satisfy
+//! the policy; [`satisfies`] asks about a multiset of users instead, and [`normal_form`] writes a
+//! policy in its normal form.
 //! Calls that judge actions are lent a [`Workspace`], and take up to 128 KiB of stack. Nothing is
 //! kept between calls but what the caller holds.
 //!
@@ -74,6 +75,7 @@ pub mod raw;
 mod refusal;
 mod status;
 mod term;
+mod users;
 mod workspace;
 
 pub use event::Event;
@@ -82,6 +84,7 @@ pub use raw::{Action, LAYOUT, MAX_ACTIONS, MAX_ROLES, MAX_USERS, MAX_WORDS};
 pub use refusal::Refusal;
 pub use status::Status;
 pub use term::Term;
+pub use users::{Users, UsersIter};
 pub use workspace::Workspace;
 
 use raw::Calls;

@@ -1,9 +1,10 @@
-//! A monitor: opening, events, the status, and the bytes in which it is stored.
+//! A monitor: opening, events, the status, who may act, and the bytes in which it is stored.
 
 use crate::event::Event;
 use crate::raw::{self, Action, Calls, LAYOUT};
 use crate::refusal::{self, Refusal};
 use crate::status::Status;
+use crate::users::Users;
 use crate::workspace::Workspace;
 
 /// The monitor of one run under a policy: the policy, who holds which roles, the actions taken so
@@ -68,6 +69,49 @@ impl Monitor {
     /// [`Monitor`](Refusal::Monitor).
     pub fn status(&self, workspace: &mut Workspace) -> Result<Status, Refusal> {
         refusal::status(Calls::LINKED.status(&self.raw, workspace.words_mut()))
+    }
+
+    /// The users who may act: those whose action would be accepted now, whatever its number. A closed
+    /// monitor and one with twelve actions have none.
+    ///
+    /// A refused event alters nothing, so who may act is asked anew only after an accepted one.
+    ///
+    /// The workspace then speaks of the taken actions and one of the last user, who may act or not; on
+    /// a monitor that is closed or has twelve actions it is as it was.
+    ///
+    /// # Errors
+    /// [`Monitor`](Refusal::Monitor).
+    ///
+    /// # Example
+    ///
+    /// One counts (role 0), another approves (role 1):
+    ///
+    /// ```
+    /// use oskhrein::{Event, Monitor, Refusal, Term, Workspace};
+    ///
+    /// # fn main() -> Result<(), Refusal> {
+    /// let policy = Term::apart(Term::role(0)?, Term::role(1)?)?;
+    /// let mut workspace = Workspace::new();
+    /// let mut quote = Monitor::open(3, 2, policy.words(), &[0b01, 0b11, 0b10])?;
+    /// let mut may_act = quote.enabled(&mut workspace)?;
+    /// assert_eq!(may_act.len(), 3);
+    ///
+    /// for user in [1, 1, 0] {
+    ///     let action = Event::Action { user, number: 0 };
+    ///     let answer = quote.event(action, &mut workspace);
+    ///     assert_eq!(answer.is_ok(), may_act.contains(user));
+    ///     if answer.is_ok() {
+    ///         may_act = quote.enabled(&mut workspace)?;
+    ///     }
+    /// }
+    /// assert!(may_act.is_empty());
+    /// # Ok(())
+    /// # }
+    /// ```
+    pub fn enabled(&self, workspace: &mut Workspace) -> Result<Users, Refusal> {
+        let mut users = 0;
+        let answer = Calls::LINKED.enabled(&self.raw, workspace.words_mut(), &mut users);
+        refusal::accepted(answer).map(|()| Users::from_bits(users))
     }
 
     /// The policy's words.

@@ -85,6 +85,12 @@ exported! {
         workspace: *mut u32,
         n_workspace: usize,
     ) -> u8;
+    enabled: oskhrein_enabled(
+        monitor: *const Monitor,
+        workspace: *mut u32,
+        n_workspace: usize,
+        users: *mut u16,
+    ) -> u8;
     satisfies: oskhrein_satisfies(
         users: u8,
         roles: u8,
@@ -136,6 +142,13 @@ impl Calls {
         let (workspace, n_workspace) = (workspace.as_mut_ptr(), workspace.len());
         // SAFETY: 1 to 3 by the parameters' types.
         unsafe { (self.status)(monitor, workspace, n_workspace) }
+    }
+
+    /// The users whose action would be accepted, bit u for user u. A refusal leaves them as they were.
+    pub fn enabled(&self, monitor: &Monitor, workspace: &mut [u32], users: &mut u16) -> u8 {
+        let (workspace, n_workspace) = (workspace.as_mut_ptr(), workspace.len());
+        // SAFETY: 1 to 3 by the parameters' types.
+        unsafe { (self.enabled)(monitor, workspace, n_workspace, users) }
     }
 
     /// The multiset test.

@@ -4,7 +4,7 @@ mod common;
 
 use common::{open_l, step, EVENTS_L, POLICY_F};
 use oskhrein::raw::Calls;
-use oskhrein::{Event, Monitor, Refusal, Status, Workspace, LAYOUT};
+use oskhrein::{Event, Monitor, Refusal, Status, Users, Workspace, LAYOUT};
 
 /// The bytes of listing L's monitor with its first two actions.
 fn stored() -> [u8; Monitor::BYTES] {
@@ -15,16 +15,18 @@ fn stored() -> [u8; Monitor::BYTES] {
     monitor.to_bytes()
 }
 
-/// Whether a monitor with this byte at this place is malformed, by both calls.
+/// Whether a monitor with this byte at this place is malformed, by every call on one.
 fn is_malformed(place: usize, byte: u8) -> bool {
     let mut bytes = stored();
     bytes[place] = byte;
     let mut monitor = Monitor::from_bytes(&bytes);
     let mut workspace = Workspace::new();
     let status = monitor.status(&mut workspace);
+    let users = monitor.enabled(&mut workspace);
     let event = monitor.event(Event::Grant { user: 0, role: 1 }, &mut workspace);
-    assert_eq!(status.is_err(), event.is_err());
-    status == Err(Refusal::Monitor) && event == Err(Refusal::Monitor)
+    assert_eq!((status.is_err(), users.is_err()), (event.is_err(), event.is_err()));
+    let refused = Some(Refusal::Monitor);
+    status.err() == refused && users.err() == refused && event.err() == refused
 }
 
 #[test]
@@ -113,6 +115,7 @@ fn every_mark_but_0_is_closed() {
         let mut monitor = Monitor::from_bytes(&bytes);
         assert_eq!(monitor.is_closed(), mark != 0);
         assert_eq!(monitor.status(&mut workspace) == Ok(Status::Closed), mark != 0);
+        assert_eq!(monitor.enabled(&mut workspace).map(Users::is_empty), Ok(mark != 0));
         let event = monitor.event(Event::Close, &mut workspace);
         let refused = if mark == 0 { Refusal::NotSatisfied } else { Refusal::Closed };
         assert_eq!(event, Err(refused));
@@ -134,7 +137,10 @@ fn any_bytes_are_answered() {
         let parts = (monitor.policy().len(), monitor.user_roles().len());
         assert!(parts.0 <= 31 && parts.1 <= 16 && monitor.actions().len() <= 12);
         let status = monitor.status(&mut workspace);
+        let users = monitor.enabled(&mut workspace);
         let event = monitor.event(Event::Action { user: 0, number: 0 }, &mut workspace);
         assert_eq!(status == Err(Refusal::Monitor), event == Err(Refusal::Monitor));
+        assert_eq!(users.map(|users| users.contains(0)).unwrap_or(false), event.is_ok());
+        assert_eq!(users.err(), status.err());
     }
 }

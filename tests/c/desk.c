@@ -5,10 +5,23 @@
 
 static uint32_t workspace[OSKHREIN_WORKSPACE_WORDS];
 
-static unsigned act(struct oskhrein_monitor *quote, uint8_t user)
+/* Who may act is kept beside the quote and asked for anew after 0; any other answer leaves it right. */
+static unsigned act(struct oskhrein_monitor *quote, uint16_t *enabled, uint8_t user)
 {
     uint32_t action = oskhrein_event_word(OSKHREIN_EVENT_ACTION, user, 0);
-    return oskhrein_event(quote, action, workspace, OSKHREIN_WORKSPACE_WORDS);
+    unsigned code = oskhrein_event(quote, action, workspace, OSKHREIN_WORKSPACE_WORDS);
+    if (code == OSKHREIN_ACCEPTED)
+        code = oskhrein_enabled(quote, workspace, OSKHREIN_WORKSPACE_WORDS, enabled);
+    return code;
+}
+
+static void show(uint16_t enabled)
+{
+    printf("may act:");
+    for (unsigned user = 0; user < OSKHREIN_MAX_USERS; user++)
+        if (enabled >> user & 1)
+            printf(" %u", user);
+    printf("\n");
 }
 
 int main(void)
@@ -20,14 +33,21 @@ int main(void)
     };
     const uint16_t roles[] = {1 << 0, 1 << 0 | 1 << 1}; /* user 0 counts; user 1 counts and approves */
     struct oskhrein_monitor quote = OSKHREIN_BLANK;
+    uint16_t enabled = 0; /* bit u for user u */
 
     if (oskhrein_layout() != OSKHREIN_LAYOUT)
         return 1; /* the library is not this header's */
     if (oskhrein_open(&quote, 2, 2, policy, 3, roles, 2) != OSKHREIN_ACCEPTED)
         return 1;
-    printf("user 1 acts: %u\n", act(&quote, 1));
-    printf("user 1 acts again: %u\n", act(&quote, 1));
-    printf("user 0 acts: %u\n", act(&quote, 0));
+    if (oskhrein_enabled(&quote, workspace, OSKHREIN_WORKSPACE_WORDS, &enabled) != OSKHREIN_ACCEPTED)
+        return 1;
+    show(enabled);
+    printf("user 1 acts: %u\n", act(&quote, &enabled, 1));
+    show(enabled);
+    printf("user 1 acts again: %u\n", act(&quote, &enabled, 1));
+    show(enabled);
+    printf("user 0 acts: %u\n", act(&quote, &enabled, 0));
+    show(enabled);
     printf("status: %c\n", oskhrein_status(&quote, workspace, OSKHREIN_WORKSPACE_WORDS));
     return 0;
 }

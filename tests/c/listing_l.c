@@ -207,6 +207,69 @@ static void refusals(void)
     CHECK(same(&monitor, &before) && workspace_is(GUARD));
 }
 
+/* Along listing L a mask that is kept, and asked for anew after 0 only, is always what a call answers. */
+static void kept_mask(void)
+{
+    static const uint32_t events[] = {0x01000201, 0x01000001, 0x01000102, 0x02000102, 0x02000202, 0x04000000, 0x00000000,
+                                      0x01000203, 0x01000004, 0x03000102, 0x04000000, 0x01000004};
+    static const uint16_t want[] = {3, 3, 3, 3, 7, 7, 7, 7, 7, 7, 0, 0};
+    struct oskhrein_monitor monitor = OSKHREIN_BLANK;
+    uint16_t kept = 0xa5a5;
+
+    CHECK(open_l(&monitor) == OSKHREIN_ACCEPTED);
+    CHECK(oskhrein_enabled(&monitor, workspace, OSKHREIN_WORKSPACE_WORDS, &kept) == OSKHREIN_ACCEPTED && kept == 3);
+    for (size_t i = 0; i < sizeof events / sizeof *events; i++) {
+        uint16_t users = 0xa5a5;
+        uint8_t code = oskhrein_event(&monitor, events[i], workspace, OSKHREIN_WORKSPACE_WORDS);
+        CHECK(oskhrein_enabled(&monitor, workspace, OSKHREIN_WORKSPACE_WORDS, &users) == OSKHREIN_ACCEPTED);
+        if (code == OSKHREIN_ACCEPTED) {
+            kept = users;
+        }
+        CHECK(kept == users && users == want[i]);
+    }
+}
+
+/* The mask, the workspace of the last user's trial, and what a closed monitor, a full one and a refusal leave. */
+static void enabled(void)
+{
+    static const uint32_t plus_everyone[] = {0x05000000, 0x01000000};
+    static const uint16_t rows[] = {1, 0};
+    static uint32_t trial[OSKHREIN_WORKSPACE_WORDS + 1];
+    struct oskhrein_monitor monitor = OSKHREIN_BLANK;
+    struct oskhrein_monitor before;
+    uint16_t users = 0xa5a5;
+
+    CHECK(open_l(&monitor) == OSKHREIN_ACCEPTED);
+    before = monitor;
+    fill_workspace(GUARD);
+    CHECK(oskhrein_event(&monitor, 0x01000201, workspace, OSKHREIN_WORKSPACE_WORDS) == OSKHREIN_NOT_POSSIBLE);
+    memcpy(trial, workspace, sizeof trial);
+    fill_workspace(GUARD);
+    CHECK(oskhrein_enabled(&monitor, workspace, OSKHREIN_WORKSPACE_WORDS, &users) == OSKHREIN_ACCEPTED);
+    CHECK(users == 3 && same(&monitor, &before) && memcmp(trial, workspace, sizeof trial) == 0);
+
+    users = 0xa5a5;
+    fill_workspace(GUARD);
+    CHECK(oskhrein_enabled(&monitor, workspace, OSKHREIN_WORKSPACE_WORDS - 1, &users) == OSKHREIN_WORKSPACE);
+    monitor.instance.taken = 13;
+    CHECK(oskhrein_enabled(&monitor, workspace, OSKHREIN_WORKSPACE_WORDS - 1, &users) == OSKHREIN_WORKSPACE);
+    CHECK(oskhrein_enabled(&monitor, workspace, OSKHREIN_WORKSPACE_WORDS, &users) == OSKHREIN_MONITOR);
+    CHECK(users == 0xa5a5 && workspace_is(GUARD));
+
+    before.instance.closed = 2;
+    CHECK(oskhrein_enabled(&before, workspace, OSKHREIN_WORKSPACE_WORDS, &users) == OSKHREIN_ACCEPTED);
+    check(users == 0 && workspace_is(GUARD), "nobody may act on a closed monitor");
+
+    CHECK(oskhrein_open(&monitor, 2, 1, plus_everyone, 2, rows, 2) == OSKHREIN_ACCEPTED);
+    for (int taken = 0; taken < OSKHREIN_MAX_ACTIONS; taken++) {
+        CHECK(oskhrein_enabled(&monitor, workspace, OSKHREIN_WORKSPACE_WORDS, &users) == OSKHREIN_ACCEPTED && users == 1);
+        CHECK(oskhrein_event(&monitor, 0x01000000, workspace, OSKHREIN_WORKSPACE_WORDS) == OSKHREIN_ACCEPTED);
+    }
+    fill_workspace(GUARD);
+    CHECK(oskhrein_enabled(&monitor, workspace, OSKHREIN_WORKSPACE_WORDS, &users) == OSKHREIN_ACCEPTED);
+    check(users == 0 && workspace_is(GUARD), "nobody may act on a full monitor");
+}
+
 static void normal_forms(void)
 {
     static const uint32_t want[] = {0x08000000, 0x05000000, 0x01000000, 0x09000000, 0x02000000, 0x06000000,
@@ -237,6 +300,8 @@ int main(void)
     listing_l();
     multisets();
     refusals();
+    kept_mask();
+    enabled();
     normal_forms();
     printf("%d passed, %d failed\n", passed, failed);
     return failed != 0;

@@ -136,6 +136,12 @@ impl All {
         all
     }
 
+    /// The users who meet the same unit terms as this one.
+    pub fn like(&self, user: u32, shape: &Shape) -> u32 {
+        let alike = |who: &u16| if who >> (user & 15) & 1 == 1 { *who } else { !*who };
+        self.who[..shape.words].iter().map(alike).fold(u16::MAX, |all, one| all & one).into()
+    }
+
     /// Bit i: the user meets the unit term at word i.
     pub fn met(&self, user: u32, shape: &Shape) -> u32 {
         let bit = |(place, who): (usize, &u16)| (u32::from(*who) >> (user & 15) & 1) << place;

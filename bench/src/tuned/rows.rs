@@ -5,12 +5,15 @@
 //! that is not possible for a set without its last action, or without its first, is neither
 //! possible nor satisfied for the set. And alike actions can be exchanged: a set with an action but
 //! without an earlier one that is alike has the row of the set with the earlier one instead.
+//!
+//! Of actions that are tried one after the other, all but the last are entered in the column of
+//! possible alone, where a walk ends as soon as all that it can find is found.
 
 use std::mem::MaybeUninit;
 use std::ops::BitOr;
 
 use super::policy::Shape;
-use super::Action;
+use super::{Action, Trial};
 use super::{SETS, WORDS};
 
 /// A binary operator of the policy that is no unit term.
@@ -43,6 +46,15 @@ struct Masks {
 /// A mask in both columns.
 fn twice(mask: u32) -> u64 {
     u64::from(mask) << 32 | u64::from(mask)
+}
+
+/// A mask in both columns, or in that of possible alone.
+fn columns<const BOTH: bool>(mask: u32) -> u64 {
+    if BOTH {
+        twice(mask)
+    } else {
+        u64::from(mask) << 32
+    }
 }
 
 impl Masks {
@@ -142,9 +154,9 @@ impl<const N: usize> Tables<N> {
         tables
     }
 
-    /// All ways to part s in two; t is s without its last action. Two parts go by one step: a, which
-    /// has not the lowest action of t, and a with it. Places are counted twice, so that they serve
-    /// for both tables without a shift.
+    /// All ways to part s in two, until what was found is enough; t is s without its last action.
+    /// Two parts go by one step: a, which has not the lowest action of t, and a with it. Places are
+    /// counted twice, so that they serve for both tables without a shift.
     ///
     /// # Safety
     /// s is below N, t is s without its highest bit, t is not 0, and all sets below s were entered.
@@ -154,12 +166,13 @@ impl<const N: usize> Tables<N> {
         s: usize,
         t: usize,
         one: impl Fn(usize, usize) -> F,
+        enough: impl Fn(F) -> bool,
     ) -> F {
         let (whole, low) = (2 * s, 2 * (t & t.wrapping_neg()));
         let high = 2 * t ^ low;
         let mut a = high;
         let mut found = one(low, whole - low);
-        while a != 0 {
+        while a != 0 && !enough(found) {
             let b = whole - a;
             found = found | one(a, b) | one(a + low, b - low);
             a = (a - 1) & high;
@@ -199,17 +212,26 @@ impl<const N: usize> Tables<N> {
     /// # Safety
     /// As for [`Tables::joined`].
     #[inline(always)]
-    unsafe fn joints(&self, masks: &Masks, alive: u32, s: usize, t: usize) -> u64 {
-        if t == 0 || alive & masks.joint == 0 {
+    unsafe fn joints<const BOTH: bool>(
+        &self,
+        masks: &Masks,
+        alive: u32,
+        s: usize,
+        t: usize,
+    ) -> u64 {
+        let wanted = columns::<BOTH>(alive & masks.joint);
+        if t == 0 || wanted == 0 {
             return 0;
         }
+        let enough = |found: u64| !BOTH && found & wanted == wanted;
         let found = if alive & masks.apart == 0 {
-            let Sides { left, right } = self.joined(s, t, |a, b| self.parted(a, b));
+            let enough = |found: Sides| enough(found.left | found.right);
+            let Sides { left, right } = self.joined(s, t, |a, b| self.parted(a, b), enough);
             left | right
         } else {
-            self.joined(s, t, |a, b| self.allowed(a, b, masks.together))
+            self.joined(s, t, |a, b| self.allowed(a, b, masks.together), enough)
         };
-        found & twice(alive & masks.joint)
+        found & wanted
     }
 }
 
@@ -237,26 +259,66 @@ impl<const N: usize> Filling<'_, N> {
         *possible.get_unchecked_mut(s) = *possible.get_unchecked(other);
     }
 
-    /// Enters s, which is t with this action.
+    /// Enters s, which is t with this action, in both columns or in that of possible alone.
     ///
     /// # Safety
     /// s is below N, and all sets below it were entered.
     #[inline(always)]
-    unsafe fn enter(&mut self, s: usize, t: usize, action: &Action) {
+    unsafe fn enter<const BOTH: bool>(&mut self, s: usize, t: usize, action: &Action) {
         let Filling { masks, tables, satisfied, possible } = self;
         let users = tables.users.get_unchecked(t).assume_init() | 1 << (action.user & 15);
         let met = tables.met.get_unchecked(t).assume_init() & action.met;
         let alive = possible.get_unchecked(t) & possible.get_unchecked(s & (s - 1));
-        let single = if t == 0 { twice(met) & masks.units } else { 0 };
-        let plus = twice(met) >> 1 & masks.plus;
-        let base = single | plus | tables.joints(masks, alive, s, t);
+        let single = if t == 0 { columns::<BOTH>(met) & masks.units } else { 0 };
+        let plus = columns::<BOTH>(met) >> 1 & masks.plus;
+        let base = single | plus | tables.joints::<BOTH>(masks, alive, s, t);
         let (bits, right) = masks.finish(base, alive & masks.binary);
         tables.sides.get_unchecked_mut(s).write(Sides { left: bits >> 1, right });
         tables.users.get_unchecked_mut(s).write(users);
         tables.met.get_unchecked_mut(s).write(met);
         tables.same.get_unchecked_mut(s).write(s as u16);
-        *satisfied.get_unchecked_mut(s) = bits as u32;
         *possible.get_unchecked_mut(s) = (bits >> 32) as u32;
+        if BOTH {
+            *satisfied.get_unchecked_mut(s) = bits as u32;
+        }
+    }
+
+    /// Enters the sets with this action behind those of the actions before it.
+    ///
+    /// # Safety
+    /// Those were entered, and N has room for twice as many.
+    #[inline(always)]
+    unsafe fn add<const BOTH: bool>(&mut self, before: &[Action], action: &Action) {
+        let top = 1 << before.len();
+        let places = (0..before.len()).filter(|place| before[*place] == *action);
+        let alike: usize = places.map(|place| 1 << place).sum();
+        for t in 0..top {
+            let missing = alike & !t;
+            let same = usize::from(self.tables.same.get_unchecked(t).assume_init());
+            if same != t {
+                self.copy(top | t, top | same);
+            } else if missing != 0 {
+                self.copy(top | t, t | missing & missing.wrapping_neg());
+            } else {
+                self.enter::<BOTH>(top | t, t, action);
+            }
+        }
+    }
+
+    /// Enters the sets of the actions.
+    ///
+    /// # Safety
+    /// N has room for them.
+    #[inline(always)]
+    unsafe fn add_all(&mut self, actions: &[Action]) {
+        for (place, action) in actions.iter().enumerate() {
+            self.add::<true>(&actions[..place], action);
+        }
+    }
+
+    /// Whether all of the first so many actions are possible.
+    fn is_possible(&self, actions: usize) -> bool {
+        self.possible[(1 << actions) - 1] & 1 == 1
     }
 }
 
@@ -270,46 +332,91 @@ fn enter_all<const N: usize>(
     possible: &mut [u32; SETS],
 ) {
     let mut filling = Filling { masks, tables: Tables::<N>::new(), satisfied, possible };
-    for (j, action) in actions.iter().enumerate() {
-        let top = 1 << j;
-        let alike: usize = (0..j).filter(|i| actions[*i] == *action).map(|i| 1 << i).sum();
-        for t in 0..top {
-            let missing = alike & !t;
-            // SAFETY: there are no more sets than N, and those before this one were entered.
-            unsafe {
-                let same = usize::from(filling.tables.same.get_unchecked(t).assume_init());
-                if same != t {
-                    filling.copy(top | t, top | same);
-                } else if missing != 0 {
-                    filling.copy(top | t, t | missing & missing.wrapping_neg());
-                } else {
-                    filling.enter(top | t, t, action);
-                }
-            }
-        }
-    }
+    // SAFETY: there are no more sets than N.
+    unsafe { filling.add_all(actions) }
 }
 
-/// Fills the workspace for the actions. Where few words are left to write, one call clears them all.
-pub fn fill(shape: &Shape, actions: &[Action], workspace: &mut [u32; WORDS]) {
-    let mut masks = Masks::new(shape);
-    masks.enter(shape);
-    let sets = 1 << actions.len();
+/// Enters the sets of the taken actions, then those with each action tried, one in place of the
+/// other. Answers the users of those that are possible.
+#[inline(never)]
+fn enter_trials<const N: usize>(
+    masks: &Masks,
+    taken: &[Action],
+    trials: &[Trial],
+    satisfied: &mut [u32; SETS],
+    possible: &mut [u32; SETS],
+) -> u16 {
+    let mut filling = Filling { masks, tables: Tables::<N>::new(), satisfied, possible };
+    // SAFETY: there are no more sets than N.
+    unsafe { filling.add_all(taken) };
+    let mut users = 0;
+    for (place, Trial { action, users: own }) in trials.iter().enumerate() {
+        // SAFETY: as above; the sets of the taken actions stay entered.
+        unsafe {
+            if place + 1 < trials.len() {
+                filling.add::<false>(taken, action);
+            } else {
+                filling.add::<true>(taken, action);
+            }
+        }
+        if filling.is_possible(taken.len() + 1) {
+            users |= own;
+        }
+    }
+    users
+}
+
+/// The halves of a workspace that is to hold so many sets: the empty one entered, and what lies past
+/// them cleared. Where few words are left to write, one call clears them all.
+#[inline(always)]
+fn halves<'a>(
+    shape: &Shape,
+    sets: usize,
+    workspace: &'a mut [u32; WORDS],
+) -> (&'a mut [u32; SETS], &'a mut [u32; SETS]) {
     if sets <= 256 {
         workspace.fill(0);
     }
     let (satisfied, possible) = workspace.split_at_mut(SETS);
     let satisfied: &mut [u32; SETS] = satisfied.try_into().expect("half of the words");
     let possible: &mut [u32; SETS] = possible.try_into().expect("half of the words");
+    if sets > 256 {
+        satisfied[sets..].fill(0);
+        possible[sets..].fill(0);
+    }
     satisfied[0] = 0;
     possible[0] = (1 << shape.words) - 1;
+    (satisfied, possible)
+}
+
+/// Fills the workspace for the actions.
+pub fn fill(shape: &Shape, actions: &[Action], workspace: &mut [u32; WORDS]) {
+    let mut masks = Masks::new(shape);
+    masks.enter(shape);
+    let sets = 1 << actions.len();
+    let (satisfied, possible) = halves(shape, sets, workspace);
     match sets {
         ..=16 => enter_all::<16>(&masks, actions, satisfied, possible),
         ..=256 => enter_all::<256>(&masks, actions, satisfied, possible),
-        _ => {
-            satisfied[sets..].fill(0);
-            possible[sets..].fill(0);
-            enter_all::<SETS>(&masks, actions, satisfied, possible);
-        }
+        _ => enter_all::<SETS>(&masks, actions, satisfied, possible),
+    }
+}
+
+/// Tries each of some actions after the taken ones, and answers the users of those that are possible.
+/// The workspace is filled for the taken actions with the last one tried.
+pub fn try_each(
+    shape: &Shape,
+    taken: &[Action],
+    trials: &[Trial],
+    workspace: &mut [u32; WORDS],
+) -> u16 {
+    let mut masks = Masks::new(shape);
+    masks.enter(shape);
+    let sets = 2 << taken.len();
+    let (satisfied, possible) = halves(shape, sets, workspace);
+    match sets {
+        ..=16 => enter_trials::<16>(&masks, taken, trials, satisfied, possible),
+        ..=256 => enter_trials::<256>(&masks, taken, trials, satisfied, possible),
+        _ => enter_trials::<SETS>(&masks, taken, trials, satisfied, possible),
     }
 }

@@ -1,6 +1,8 @@
 //! Each exported call against the reference: its answer, and all that it may write.
 
+mod enabled;
 mod events;
+mod left;
 mod multisets;
 mod normal_forms;
 mod openings;
@@ -40,6 +42,8 @@ pub fn compare(seed: u64, count: usize) -> Result<Report, String> {
     let library = library::chosen()?;
     let mut calls = vec![openings::compare(&library, seed, count)];
     calls.extend(events::compare(&library, seed, count));
+    let (enabled, kinds) = enabled::compare(&library, seed, count);
+    calls.push(enabled);
     calls.push(multisets::compare(&library, seed, count));
     calls.push(normal_forms::compare(&library, seed, count));
     let mut report = Report::default();
@@ -47,5 +51,6 @@ pub fn compare(seed: u64, count: usize) -> Result<Report, String> {
         report.groups.push(call.group);
         report.seen.push(call.seen);
     }
+    report.seen.push(kinds);
     Ok(report)
 }

@@ -53,28 +53,58 @@ impl fmt::Display for Group {
     }
 }
 
-/// How often each answer of a call occurred: a number, or a letter by its byte.
+/// What is counted.
+#[derive(Clone, Copy, Debug, PartialEq, Eq, PartialOrd, Ord)]
+enum Counted {
+    /// An answer: a number, or a letter by its byte.
+    Answer(u8),
+    /// A kind of input or output, by its name.
+    Kind(&'static str),
+}
+
+impl fmt::Display for Counted {
+    fn fmt(&self, formatter: &mut fmt::Formatter) -> fmt::Result {
+        match self {
+            Counted::Answer(answer) => formatter.write_str(&answer_text(*answer)),
+            Counted::Kind(name) => formatter.write_str(name),
+        }
+    }
+}
+
+/// How often each answer of a call, or each kind of input or output, occurred.
 #[derive(Clone, Debug)]
 pub struct Seen {
     name: String,
-    wanted: &'static [u8],
-    counts: BTreeMap<u8, usize>,
+    wanted: Vec<Counted>,
+    counts: BTreeMap<Counted, usize>,
 }
 
 impl Seen {
     /// No answer yet; those wanted must all occur. With none wanted, the counts are printed alone.
-    pub fn new(name: &str, wanted: &'static [u8]) -> Seen {
-        Seen { name: name.to_string(), wanted, counts: BTreeMap::new() }
+    pub fn new(name: &str, wanted: &[u8]) -> Seen {
+        let wanted = wanted.iter().copied().map(Counted::Answer).collect();
+        Seen { name: format!("answers of {name}"), wanted, counts: BTreeMap::new() }
+    }
+
+    /// Nothing of these kinds yet; all must occur.
+    pub fn kinds(name: &str, wanted: impl IntoIterator<Item = &'static str>) -> Seen {
+        let wanted = wanted.into_iter().map(Counted::Kind).collect();
+        Seen { name: format!("kinds of {name}"), wanted, counts: BTreeMap::new() }
     }
 
     /// Counts an answer.
     pub fn count(&mut self, answer: u8) {
-        *self.counts.entry(answer).or_default() += 1;
+        *self.counts.entry(Counted::Answer(answer)).or_default() += 1;
     }
 
-    /// The answers that are wanted and did not occur.
-    fn missing(&self) -> Vec<u8> {
-        let absent = |answer: &u8| !self.counts.contains_key(answer);
+    /// Counts something of this kind.
+    pub fn count_kind(&mut self, name: &'static str) {
+        *self.counts.entry(Counted::Kind(name)).or_default() += 1;
+    }
+
+    /// What is wanted and did not occur.
+    fn missing(&self) -> Vec<Counted> {
+        let absent = |wanted: &Counted| !self.counts.contains_key(wanted);
         self.wanted.iter().copied().filter(absent).collect()
     }
 }
@@ -91,16 +121,16 @@ pub fn answer_text(answer: u8) -> String {
 impl fmt::Display for Seen {
     fn fmt(&self, formatter: &mut fmt::Formatter) -> fmt::Result {
         let missing = self.missing();
-        let verdict = match (self.wanted, &missing[..]) {
+        let verdict = match (&self.wanted[..], &missing[..]) {
             ([], _) => "counted",
             (_, []) => "passed",
             _ => "FAILED",
         };
-        let pair = |(answer, count): (&u8, &usize)| format!("{} {count}x", answer_text(*answer));
+        let pair = |(counted, count): (&Counted, &usize)| format!("{counted} {count}x");
         let counts: Vec<String> = self.counts.iter().map(pair).collect();
-        write!(formatter, "{verdict}: answers of {}: {}", self.name, counts.join(", "))?;
-        for answer in missing {
-            write!(formatter, "; {} NEVER", answer_text(answer))?;
+        write!(formatter, "{verdict}: {}: {}", self.name, counts.join(", "))?;
+        for counted in missing {
+            write!(formatter, "; {counted} NEVER")?;
         }
         writeln!(formatter)
     }
@@ -111,12 +141,13 @@ impl fmt::Display for Seen {
 pub struct Report {
     /// The groups of checks.
     pub groups: Vec<Group>,
-    /// The answers that occurred.
+    /// The answers and kinds that occurred.
     pub seen: Vec<Seen>,
 }
 
 impl Report {
-    /// How many groups passed and failed; that all wanted answers of a call occurred is one more.
+    /// How many groups passed and failed; that all wanted answers of a call, or all wanted kinds,
+    /// occurred is one more.
     fn counts(&self) -> (usize, usize) {
         let groups = self.groups.iter().filter(|group| group.passed()).count();
         let wanting: Vec<&Seen> = self.seen.iter().filter(|seen| !seen.wanted.is_empty()).collect();
@@ -166,6 +197,12 @@ mod tests {
         assert!(report.to_string().contains("FAILED: answers of some: 0 1x; y NEVER"));
         report.seen[0].count(b'y');
         assert!(report.to_string().ends_with("2 passed, 2 failed\n"), "{report}");
+        let mut kinds = Seen::kinds("masks", ["all", "none"]);
+        kinds.count_kind("none");
+        report.seen.push(kinds);
+        assert!(report.to_string().contains("FAILED: kinds of masks: none 1x; all NEVER"));
+        report.seen[2].count_kind("all");
+        assert!(report.to_string().ends_with("3 passed, 2 failed\n"), "{report}");
         assert!(!report.passed() && group(0, ENOUGH).is_enough());
     }
 }

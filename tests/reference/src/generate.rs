@@ -114,4 +114,16 @@ mod tests {
         }
         assert_eq!(seen, BTreeSet::from([0, 1, 2, 3, 4, 5, 7, 8, 9, 10, 11, 12, 13, 15]));
     }
+
+    #[test]
+    fn edges_of_who_may_act_bring_about_its_numbers_and_masks() {
+        let mut random = Random::new(13);
+        let mut seen = BTreeSet::new();
+        for (_, input) in calls::enabled_edges(&mut random) {
+            seen.insert(input.instance.enabled(&mut calls::marked(input.workspace)));
+        }
+        for answer in [Err(12), Err(15), Ok(0), Ok(1), Ok(u16::MAX)] {
+            assert!(seen.contains(&answer), "{answer:?}");
+        }
+    }
 }

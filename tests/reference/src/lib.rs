@@ -1,12 +1,14 @@
 //! A second, independent reading of the papers, to compare the proved monitor with.
 //!
-//! It is written from 01 and document 004 alone, by search on lists of actions. Where 01 speaks of
-//! people, sheets, standings and bags, the code says users, instances, statuses and multisets.
+//! It is written from 01, 02 and document 004 alone, by search on lists of actions. Where the papers
+//! speak of people, sheets, standings and bags, the code says users, instances, statuses and
+//! multisets.
 //!
 //! - [`policy`]: terms, reading policy words, the normal form;
 //! - [`search`]: satisfied and possible, by search on lists;
 //! - [`event`]: event words;
 //! - [`monitor`]: a monitor and its rules, for either way to keep an action;
+//! - [`enabled`]: who may act, by trying each user;
 //! - [`multiset`]: the multiset test;
 //! - [`raw`]: instances given as raw data with noted bits, and number 15;
 //! - [`workspace`]: the words that a workspace must hold;
@@ -21,6 +23,7 @@
 
 pub mod casefile;
 pub mod code;
+pub mod enabled;
 pub mod event;
 pub mod examples;
 pub mod generate;

@@ -205,6 +205,11 @@ impl<A: Kept> Monitor<A> {
         &self.instance.taken
     }
 
+    /// The number of users.
+    pub fn users(&self) -> usize {
+        self.configuration.users
+    }
+
     /// The policy.
     pub fn policy(&self) -> &Term {
         &self.instance.policy

@@ -196,6 +196,14 @@ impl RawInstance {
     pub fn status(&self, workspace: &mut [u32]) -> Result<char, Code> {
         self.admitted(workspace)?.status(workspace)
     }
+
+    /// Who may act, with its workspace, as [`Monitor::enabled`].
+    ///
+    /// # Errors
+    /// 12, then 15.
+    pub fn enabled(&self, workspace: &mut [u32]) -> Result<u16, Code> {
+        self.admitted(workspace)?.enabled(workspace)
+    }
 }
 
 #[cfg(test)]
@@ -217,6 +225,7 @@ mod tests {
                     assert_eq!(after.event(word, &mut workspace), 15, "{name}");
                 }
                 assert_eq!(after.status(&mut workspace), Err(15));
+                assert_eq!(after.enabled(&mut workspace), Err(15));
                 assert_eq!(after, raw);
                 assert!(workspace.iter().all(|word| *word == 6));
             }
@@ -240,6 +249,7 @@ mod tests {
         let mut raw = RawInstance::BLANK;
         assert_eq!(raw.event(CLOSE, &mut vec![0; WORDS - 1]), 12);
         assert_eq!(raw.status(&mut vec![0; WORDS - 1]), Err(12));
+        assert_eq!(raw.enabled(&mut vec![0; WORDS - 1]), Err(12));
         assert_eq!(raw.event(CLOSE, &mut vec![0; WORDS]), 15);
     }
 

@@ -152,12 +152,15 @@ pub fn selfcheck(seed: u64, count: usize) -> Tally {
 }
 
 /// The monitor against Definitions 6 and 7, event by event: a refused action is not in the trace.
+/// The mask beside it is asked for anew after accepted events only.
 fn check_run(tally: &mut Tally, small: &Small) {
     let mut monitor = small.open();
     let mut raw = monitor.raw();
     let mut states = BTreeSet::from([small.process(Reading::UnitFirst)]);
     let mut trace: Vec<literal::Event> = Vec::new();
+    let mut mask = monitor.mask();
     for (event, label) in small.events.iter().zip(small.trace()) {
+        check_mask(tally, small, &states, mask);
         let code = monitor.step(as_word(*event)).code;
         let reached: BTreeSet<Process> =
             states.iter().flat_map(|state| literal::next(state, label)).collect();
@@ -166,15 +169,37 @@ fn check_run(tally: &mut Tally, small: &Small) {
         if code == code::ACCEPTED {
             states = reached;
             trace.push(label);
+            mask = monitor.mask();
         }
         if label.is_business() {
             tally.cover("actions taken", "actions refused", code == code::ACCEPTED);
         }
         let by_bits = raw.step(as_word(*event)).code;
         tally.check("the bits and the roles agree", by_bits == code && raw == monitor.raw(), small);
+        let by_bits = raw.monitor().map(|monitor| monitor.mask());
+        tally.check("the mask by bits is the same", by_bits == Ok(mask), small);
         check_letter(tally, small, &mut monitor, &trace);
     }
+    check_mask(tally, small, &states, mask);
     check_close(tally, small, &mut monitor, &states, &trace);
+    let mask = if monitor.letter() == 'd' { 0 } else { mask };
+    tally.check("the mask after a close", monitor.mask() == mask, small);
+}
+
+/// A mask against Definition 7: a user has a bit when the process engages in an action of that
+/// user, whichever it is.
+fn check_mask(tally: &mut Tally, small: &Small, states: &BTreeSet<Process>, mask: u16) {
+    let engages = |user, action| {
+        let event = literal::Event::Business { user, action };
+        states.iter().any(|state| !literal::next(state, event).is_empty())
+    };
+    for user in 0..small.users {
+        let bit = mask >> user & 1 == 1;
+        let same = engages(user, 0) == bit && engages(user, 1) == bit;
+        tally.check("the mask follows Definition 7", same, small);
+        tally.cover("users who may act", "users who may not", bit);
+    }
+    tally.check("no other user has a bit", mask >> small.users == 0, small);
 }
 
 /// The status against Definition 6.

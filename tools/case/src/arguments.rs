@@ -13,7 +13,8 @@ usage: case VERB [INPUT] [-o OUTPUT]
   write        makes a case file from a text
   show         shows a case file as text
   run          runs a text or a case file: for each event its place, its
-               number, the status, the event, and what the number says
+               number, the status, the event, who may act then, and what the
+               number says
   words c      prints a policy's words as an array for C
   words rust   prints them as an array for Rust
   normal       prints a policy's normal form

@@ -64,6 +64,12 @@ impl Opened {
         status.expect("what was opened and sent events stays well formed").letter()
     }
 
+    /// The users who may act, bit u for user u.
+    pub fn enabled(&mut self) -> u16 {
+        let users = self.monitor.enabled(&mut self.workspace);
+        users.expect("what was opened and sent events stays well formed").bits()
+    }
+
     /// How many actions are taken.
     pub fn taken(&self) -> usize {
         self.monitor.actions().len()

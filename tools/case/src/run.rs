@@ -2,22 +2,19 @@
 
 use crate::file::{self, Case};
 use crate::monitor::{self, Opened, Refused};
-use crate::names::event_word;
+use crate::names::{event_word, members};
 
 /// What is printed of a run.
 pub struct Report {
-    /// The judge's lines, each with the event and what its number says.
+    /// The judge's lines, each with who may act, and those of events with the event and what its
+    /// number says.
     pub text: String,
     /// Whether the file and the opening were accepted.
     pub accepted: bool,
 }
 
-/// One event: the judge's line, the event, and what its number says.
-struct Row {
-    judged: String,
-    event: String,
-    sentence: String,
-}
+/// One event in columns: the judge's line, the event, who may act, and what its number says.
+type Row = [String; 4];
 
 /// Runs a case file.
 pub fn report(bytes: &[u8]) -> Report {
@@ -40,11 +37,13 @@ fn refusal(refused: &Refused, reason: &str) -> Report {
 fn events(case: &Case, mut opened: Opened) -> String {
     let places = (1..).zip(&case.events);
     let rows: Vec<Row> = places.map(|(place, word)| row(case, &mut opened, place, *word)).collect();
-    let width = |text: fn(&Row) -> &str| rows.iter().map(|row| text(row).len()).max().unwrap_or(0);
-    let (judged, event) = (width(|row| &row.judged), width(|row| &row.event));
-    let line =
-        |row: &Row| format!("{:judged$}  {:event$}  {}\n", row.judged, row.event, row.sentence);
-    rows.iter().map(line).collect::<String>() + &format!("taken {}\n", opened.taken())
+    let width = |column: usize| rows.iter().map(|row| row[column].len()).max().unwrap_or(0);
+    let (first, second, third) = (width(0), width(1), width(2));
+    let line = |[judged, event, users, sentence]: &Row| {
+        format!("{judged:first$}  {event:second$}  {users:third$}  {sentence}\n")
+    };
+    let lines: String = rows.iter().map(line).collect();
+    lines + &format!("taken {}  {}\n", opened.taken(), may_act(&mut opened))
 }
 
 /// Sends one event.
@@ -54,5 +53,13 @@ fn row(case: &Case, opened: &mut Opened, place: usize, word: u32) -> Row {
         Err(Refused { number, sentence }) => (number, sentence),
     };
     let judged = format!("{place} {number} {}", opened.status());
-    Row { judged, event: event_word(word, case.counts()), sentence }
+    [judged, event_word(word, case.counts()), may_act(opened), sentence]
+}
+
+/// Who may act.
+fn may_act(opened: &mut Opened) -> String {
+    match opened.enabled() {
+        0 => "may act: nobody".to_string(),
+        users => format!("may act:{}", members(users.into())),
+    }
 }

@@ -5,51 +5,21 @@ use std::hint::black_box;
 use oskhrein::raw::{Calls, Monitor};
 use reference::casefile::{read_case, Case};
 use reference::generate::calls::{event_edges, event_input, EventInput};
+use reference::generate::instances::flipped;
 use reference::generate::{cases, Random};
 use reference::monitor::{Monitor as Grown, Taken};
-use reference::raw::{RawInstance, CLOSED_MARKS, COUNT_BITS, USER_BITS};
 use reference::workspace::WORDS;
 
+use super::left::Left;
 use super::{byte, Call};
 use crate::lent::Lent;
 use crate::library::laid_out;
-use crate::report::answer_text;
 
 /// Both calls, with the library that is asked.
 struct Events<'a> {
     library: &'a Calls,
     event: Call,
     status: Call,
-}
-
-/// What a call answered and left.
-struct Left<'a> {
-    answer: u8,
-    monitor: &'a Monitor,
-    workspace: &'a Lent,
-}
-
-impl Left<'_> {
-    /// Whether another left the same.
-    fn same(&self, other: &Left) -> bool {
-        self.answer == other.answer
-            && self.monitor == other.monitor
-            && self.workspace == other.workspace
-    }
-
-    /// In what another, which was got, differs from this, which was expected.
-    fn against(&self, got: &Left) -> String {
-        let mut text =
-            format!("  expected {}, got {}", answer_text(self.answer), answer_text(got.answer));
-        if self.monitor != got.monitor {
-            let (expected, got) = (self.monitor, got.monitor);
-            text += &format!("\n  expected monitor {expected:x?}\n  got monitor {got:x?}");
-        }
-        if let Some((place, word, other)) = self.workspace.first_difference(got.workspace) {
-            text += &format!("\n  workspace word {place}: expected {word:08x}, got {other:08x}");
-        }
-        text
-    }
 }
 
 /// Compares on all edges, on so many random instances, on as many with a bit flipped, and along
@@ -76,25 +46,6 @@ pub fn compare(library: &Calls, seed: u64, count: usize) -> [Call; 2] {
         }
     }
     [events.event, events.status]
-}
-
-/// The instance with one bit of one field flipped.
-fn flipped(random: &mut Random, instance: RawInstance) -> RawInstance {
-    let mut raw = instance;
-    let count = 1 << random.below(COUNT_BITS);
-    match random.below(9) {
-        0 => raw.users ^= count,
-        1 => raw.roles ^= count,
-        2 => raw.length ^= count,
-        3 => raw.count ^= 1 << random.below(8),
-        4 => raw.policy[random.below(31)] ^= 1 << random.below(32),
-        5 => raw.user_roles[random.below(16)] ^= 1 << random.below(16),
-        6 => raw.actions[random.below(12)].user ^= 1 << random.below(USER_BITS),
-        7 => raw.actions[random.below(12)].met ^= 1 << random.below(32),
-        _ if raw.closed == 0 => raw.closed = random.pick(&CLOSED_MARKS),
-        _ => raw.closed = 0,
-    }
-    raw
 }
 
 impl Events<'_> {

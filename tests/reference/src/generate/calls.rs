@@ -1,10 +1,11 @@
-//! Inputs for single calls: reading, normal form, events and statuses on raw instances, and the
-//! multiset test, with outputs and workspaces of every length of interest.
+//! Inputs for single calls: reading, normal form, events, statuses and who may act on raw instances,
+//! and the multiset test, with outputs and workspaces of every length of interest.
 
 use super::cases::{self, event, user_roles};
+use super::edges;
+use super::instances::{self, NamedInstance};
 use super::terms::{self, Style};
 use super::Random;
-use super::{edges, instances};
 use crate::casefile::{read_case, Case};
 use crate::examples::{action, grant, CLOSE, POLICY_F};
 use crate::policy::Term;
@@ -193,12 +194,19 @@ pub fn event_edges(random: &mut Random) -> Vec<(String, EventInput)> {
             found.push((format!("{name}, event {word:08x}"), input));
         }
     }
-    found.extend(full_instances(random));
+    for (name, instance) in full_instances(random) {
+        for (word, workspace) in
+            [(action(0), 8192), (action(2), 8192), (CLOSE, 8192), (action(1), 8191), (0, 0)]
+        {
+            let input = EventInput { instance, word, workspace };
+            found.push((format!("{name}, event {word:08x}"), input));
+        }
+    }
     found
 }
 
-/// Instances with eleven and twelve actions, open and closed, and workspaces of every length.
-fn full_instances(random: &mut Random) -> Vec<(String, EventInput)> {
+/// Instances with eleven and twelve actions, open and closed.
+fn full_instances(random: &mut Random) -> Vec<NamedInstance> {
     let style = Style { users: 2, roles: 2, lean: 0 };
     let policy = Term::plus(terms::unit(random, style, 3));
     let mut found = Vec::new();
@@ -209,12 +217,53 @@ fn full_instances(random: &mut Random) -> Vec<(String, EventInput)> {
             instance.count = count;
             instance.closed = closed;
             instance.actions[..count].iter_mut().for_each(|action| action.met = 0b1110);
-            for (word, workspace) in
-                [(action(0), 8192), (action(2), 8192), (CLOSE, 8192), (action(1), 8191), (0, 0)]
-            {
-                let name = format!("{count} actions, closed {closed}, event {word:08x}");
-                found.push((name, EventInput { instance, word, workspace }));
-            }
+            found.push((format!("{count} actions, closed {closed}"), instance));
+        }
+    }
+    found
+}
+
+/// Input for who may act on a raw instance.
+#[derive(Clone, Debug, PartialEq, Eq)]
+pub struct EnabledInput {
+    /// The instance.
+    pub instance: RawInstance,
+    /// The length of the workspace.
+    pub workspace: usize,
+}
+
+/// A random input for who may act: most instances are such as a run leaves, with users of few kinds
+/// or all different.
+pub fn enabled_input(random: &mut Random) -> EnabledInput {
+    let users = random.pick(&[1, 2, 3, 5, 8, 16]);
+    let events = random.below(9);
+    let instance = match random.below(4) {
+        0 => instances::well_formed(random, 13, 5),
+        1 => instances::grown(random, users, &instances::ALL_DIFFERENT, events),
+        _ => {
+            let kinds = random.between(1, 4);
+            let rows = user_roles(random, kinds, 4);
+            instances::grown(random, users, &rows, events)
+        }
+    };
+    EnabledInput { instance, workspace: workspace_length(random) }
+}
+
+/// Who may act on each malformed and each odd raw instance, on full ones with workspaces of every
+/// length, and among one user and sixteen who are alike or all different, with names.
+pub fn enabled_edges(random: &mut Random) -> Vec<(String, EnabledInput)> {
+    let mut named = instances::malformed(random);
+    named.extend(instances::odd_but_well_formed(random));
+    named.extend(instances::acting_in_turn());
+    let mut found = Vec::new();
+    for (name, instance) in named {
+        let workspace = workspace_length(random);
+        found.push((name, EnabledInput { instance, workspace }));
+    }
+    for (name, instance) in full_instances(random) {
+        for workspace in WORKSPACE_LENGTHS {
+            let input = EnabledInput { instance, workspace };
+            found.push((format!("{name}, workspace of {workspace}"), input));
         }
     }
     found

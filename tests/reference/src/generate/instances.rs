@@ -1,8 +1,9 @@
 //! Raw instances: well formed, and malformed in each way that number 15 lists.
 
-use super::cases::user_roles;
+use super::cases::{event, user_roles};
 use super::terms::{self, Style};
 use super::Random;
+use crate::examples::action;
 use crate::policy::{Operator, Term};
 use crate::raw::{RawAction, RawInstance, CLOSED_MARKS, COUNT_BITS, USER_BITS};
 
@@ -42,6 +43,71 @@ pub fn well_formed(random: &mut Random, most_words: usize, most_actions: usize) 
     let words = random.between(1, most_words);
     let policy = terms::term(random, style, words);
     with_policy(random, style, &policy, most_actions)
+}
+
+/// A row of four roles for each of sixteen users, no two the same; the last user holds none.
+pub const ALL_DIFFERENT: [u16; 16] = [15, 14, 13, 12, 11, 10, 9, 8, 7, 6, 5, 4, 3, 2, 1, 0];
+
+/// A raw instance with this policy of four roles, opened; the rows of roles go round among the
+/// users.
+fn opened(users: usize, policy: &Term, rows: &[u16]) -> RawInstance {
+    let user_roles: Vec<u16> = rows.iter().copied().cycle().take(users).collect();
+    RawInstance::open(users, 4, &policy.words(), &user_roles).1
+}
+
+/// A raw instance as a run leaves it, with these rows of roles: a policy that many lists of actions
+/// fit, and so many events, most of them actions.
+pub fn grown(random: &mut Random, users: usize, rows: &[u16], events: usize) -> RawInstance {
+    let operands = random.between(1, 9);
+    let policy = terms::rich(random, Style { users, roles: 4, lean: 80 }, operands);
+    let mut raw = opened(users, &policy, rows);
+    for _ in 0..events {
+        let user = random.below(users) as u32;
+        raw.step(if random.percent(80) { action(user) } else { event(random, users, 4) });
+    }
+    raw
+}
+
+/// Raw instances of one user and of sixteen, who are alike, of four kinds or all different, and who
+/// act in turn until none, some or eleven actions are taken; the first user may always act.
+pub fn acting_in_turn() -> Vec<NamedInstance> {
+    let pair = Term::join(Operator::Apart, Term::Role(0), Term::Role(1));
+    let others = Term::join(Operator::Either, Term::Role(2), Term::Role(3));
+    let policy = Term::join(Operator::Together, pair, Term::plus(others));
+    let rows: [&[u16]; 3] = [&[7], &[5, 0, 6, 12], &ALL_DIFFERENT];
+    let mut found = Vec::new();
+    for (users, rows) in [1, 16].into_iter().flat_map(|users| rows.map(|rows| (users, rows))) {
+        for taken in [0, 1, 4, 11] {
+            let mut raw = opened(users, &policy, rows);
+            for user in (0..users as u32).cycle() {
+                if raw.count == taken {
+                    break;
+                }
+                raw.step(action(user));
+            }
+            found.push((format!("{users} users of {} kinds, {taken} actions", rows.len()), raw));
+        }
+    }
+    found
+}
+
+/// The instance with one bit of one field flipped.
+pub fn flipped(random: &mut Random, instance: RawInstance) -> RawInstance {
+    let mut raw = instance;
+    let count = 1 << random.below(COUNT_BITS);
+    match random.below(9) {
+        0 => raw.users ^= count,
+        1 => raw.roles ^= count,
+        2 => raw.length ^= count,
+        3 => raw.count ^= 1 << random.below(8),
+        4 => raw.policy[random.below(31)] ^= 1 << random.below(32),
+        5 => raw.user_roles[random.below(16)] ^= 1 << random.below(16),
+        6 => raw.actions[random.below(12)].user ^= 1 << random.below(USER_BITS),
+        7 => raw.actions[random.below(12)].met ^= 1 << random.below(32),
+        _ if raw.closed == 0 => raw.closed = random.pick(&CLOSED_MARKS),
+        _ => raw.closed = 0,
+    }
+    raw
 }
 
 /// An instance that leaves room to be malformed in every way: some user, role, policy word, place

@@ -1,0 +1,134 @@
+//! Who may act (02, "Light up who may act"): each user's action is tried on a copy of the monitor.
+
+use crate::code::{self, Code};
+use crate::examples::action;
+use crate::monitor::{Kept, Monitor};
+use crate::workspace;
+
+impl<A: Kept> Monitor<A> {
+    /// The mask without a workspace: bit u is set when an action by user u would be answered 0 now.
+    pub fn mask(&self) -> u16 {
+        let answer = |user: usize| self.clone().step(action(user as u32)).code;
+        let accepted = (0..self.users()).filter(|user| answer(*user) == code::ACCEPTED);
+        accepted.map(|user| 1u16 << user).sum()
+    }
+
+    /// The mask with its workspace, which is as the trial of the highest numbered user leaves it.
+    ///
+    /// # Errors
+    /// 12 if the workspace is too short.
+    pub fn enabled(&self, workspace: &mut [u32]) -> Result<u16, Code> {
+        workspace::check(workspace)?;
+        let highest = self.users() - 1;
+        self.clone().event(action(highest as u32), workspace);
+        Ok(self.mask())
+    }
+}
+
+#[cfg(test)]
+mod tests {
+    use super::*;
+    use crate::examples::{grant, revoke, CLOSE};
+    use crate::generate::{instances, Random};
+    use crate::monitor::Taken;
+    use crate::raw::RawAction;
+    use crate::workspace::{expected, WORDS};
+
+    /// Role 0 apart from role 1, for user 0 with both roles, user 1 with role 1 and user 2 with
+    /// none.
+    fn apart() -> Monitor<Taken> {
+        let words = [0x09000000, 0x02000000, 0x02000001];
+        Monitor::open(3, 2, &words, &[3, 2, 0]).expect("it opens")
+    }
+
+    /// Plus everyone, after so many actions of user 0; user 1 has no role.
+    fn plus_everyone(taken: usize) -> Monitor<Taken> {
+        let opened = Monitor::open(2, 1, &[0x05000000, 0x01000000], &[1, 0]);
+        let mut monitor = opened.expect("it opens");
+        (0..taken).for_each(|_| assert_eq!(monitor.step(action(0)).code, 0));
+        monitor
+    }
+
+    #[test]
+    fn masks_are_as_counted_by_hand() {
+        let mut monitor = apart();
+        assert_eq!(monitor.mask(), 0b011);
+        monitor.step(grant(2, 0));
+        assert_eq!(monitor.mask(), 0b111);
+        monitor.step(action(0));
+        assert_eq!(monitor.mask(), 0b110, "who acted may not act for the other side");
+        monitor.step(revoke(1, 1));
+        assert_eq!(monitor.mask(), 0b100);
+        monitor.step(action(2));
+        assert_eq!(monitor.mask(), 0, "both sides are filled");
+        assert_eq!(monitor.step(CLOSE).code, 0);
+        assert_eq!(monitor.mask(), 0);
+    }
+
+    #[test]
+    fn the_number_of_the_action_plays_no_part() {
+        let mut random = Random::new(21);
+        for _ in 0..40 {
+            let raw = instances::well_formed(&mut random, 9, 4);
+            let monitor = raw.monitor().expect("it is well formed");
+            let mask = monitor.mask();
+            for user in 0..raw.users as u32 {
+                for number in 0..=0xff {
+                    let code = monitor.clone().step(action(user) | number).code;
+                    assert_eq!(code == 0, mask >> user & 1 == 1, "{raw:?}");
+                }
+            }
+        }
+    }
+
+    #[test]
+    fn a_refused_event_leaves_the_mask() {
+        let mut monitor = apart();
+        monitor.step(action(0));
+        let refused = [(action(0), 9), (action(3), 7), (0, 7), (u32::MAX, 7), (CLOSE, 11)];
+        for (word, code) in refused {
+            assert_eq!((monitor.step(word).code, monitor.mask()), (code, 0b010));
+        }
+        assert_eq!(monitor.event(action(1), &mut vec![0; WORDS - 1]), 12);
+        assert_eq!(monitor.mask(), 0b010);
+        let mut full = plus_everyone(12);
+        assert_eq!((full.step(action(0)).code, full.mask()), (8, 0));
+    }
+
+    #[test]
+    fn the_workspace_is_that_of_the_highest_users_trial() {
+        for mut monitor in [apart(), plus_everyone(0), plus_everyone(3), plus_everyone(11)] {
+            let marked: Vec<u32> = (0..WORDS as u32 + 2).collect();
+            let (mut workspace, mut tried) = (marked.clone(), marked.clone());
+            let mask = monitor.mask();
+            assert_eq!(monitor.enabled(&mut workspace), Ok(mask));
+            let mut actions = monitor.taken().to_vec();
+            actions.push(Taken { user: monitor.users() - 1, held: [].into() });
+            assert_eq!(workspace[..WORDS], expected(monitor.policy(), &actions));
+            assert_eq!(workspace[WORDS..], marked[WORDS..]);
+            assert_eq!(monitor.event(action(monitor.users() as u32 - 1), &mut tried), 9);
+            assert_eq!(workspace, tried);
+        }
+    }
+
+    #[test]
+    fn closed_and_full_monitors_leave_the_workspace() {
+        let mut closed = plus_everyone(2);
+        assert_eq!(closed.step(CLOSE).code, 0);
+        for monitor in [closed, plus_everyone(12)] {
+            let mut workspace = vec![4; WORDS + 2];
+            assert_eq!(monitor.enabled(&mut workspace), Ok(0));
+            assert!(workspace.iter().all(|word| *word == 4));
+            assert_eq!(monitor.enabled(&mut workspace[1..WORDS]), Err(12));
+        }
+    }
+
+    #[test]
+    fn sixteen_users_have_sixteen_bits() {
+        let opened = Monitor::<RawAction>::open(16, 1, &[0x01000000], &[1; 16]);
+        let mut monitor = opened.expect("it opens");
+        assert_eq!(monitor.mask(), u16::MAX);
+        monitor.step(revoke(15, 0));
+        assert_eq!(monitor.mask(), u16::MAX >> 1);
+    }
+}
