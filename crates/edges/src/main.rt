@@ -1,4 +1,5 @@
-// The edges that document 01 names, run through the calls: each line is what was asked and the number that it was answered.
+// The edges that documents 01 and 02 name, run through the calls: each line is what was asked and the number that it was answered.
+use monitor::Enabled;
 use monitor::Monitor;
 use monitor::Status;
 use multiset::Verdict;
@@ -109,6 +110,22 @@ fn say_verdict(asked: &[u8], verdict: Verdict) {
     }
 }
 
+// A set of users by its mask, or a number.
+fn say_enabled(asked: &[u8], enabled: Enabled) {
+    match enabled {
+        Enabled::Users(mask) => say_mask(asked, mask),
+        Enabled::Refused(k) => say(asked, k),
+    }
+}
+
+fn say_mask(asked: &[u8], mask: u16) {
+    io::write_all(1, asked);
+    io::write_all(1, b"mask ");
+    io::print_decimal(1, mask as u64);
+    let end = [b'\n'];
+    io::write_all(1, &end);
+}
+
 fn words() {
     let rows = [1u16];
     let longest = LONGEST;
@@ -121,6 +138,9 @@ fn users() {
     let rows = [1u16; 16];
     let plus = PLUS;
     say(b"16 users: ", Monitor::open(16, 1, &plus, &rows).code);
+    let mut workspace = [0u32; 8192];
+    let opened = Monitor::open(16, 1, &plus, &rows).monitor;
+    say_enabled(b"16 users, who may act: ", opened.enabled(&mut workspace));
     let more = [1u16; 17];
     say(b"17 users: ", Monitor::open(17, 1, &plus, &more).code);
     let roles = [0xffffu16];
@@ -147,6 +167,11 @@ fn actions() {
     say(b"taken: ", instance.taken);
     let mut workspace = [0u32; 8192];
     say_status(b"status: ", full.status(&mut workspace));
+    say_enabled(b"who may act: ", full.enabled(&mut workspace));
+    let closed = full.event(0x0400_0000, &mut workspace).monitor;
+    say_enabled(b"closed, who may act: ", closed.enabled(&mut workspace));
+    let blank = Monitor::open(0, 1, &plus, &rows).monitor;
+    say_enabled(b"blank, who may act: ", blank.enabled(&mut workspace));
 }
 
 fn workspaces() {
@@ -161,6 +186,7 @@ fn workspaces() {
         opened.event(0x0100_0000, &mut short).code,
     );
     say_status(b"8191 words, status: ", opened.status(&mut short));
+    say_enabled(b"8191 words, who may act: ", opened.enabled(&mut short));
     say_verdict(
         b"8191 words, multiset: ",
         multiset::satisfies(1, 1, &plus, &rows, counts, &mut short),
@@ -171,6 +197,7 @@ fn workspaces() {
         opened.event(0x0100_0000, &mut workspace).code,
     );
     say_status(b"8192 words, status: ", opened.status(&mut workspace));
+    say_enabled(b"8192 words, who may act: ", opened.enabled(&mut workspace));
     say_verdict(
         b"8192 words, multiset: ",
         multiset::satisfies(1, 1, &plus, &rows, counts, &mut workspace),
