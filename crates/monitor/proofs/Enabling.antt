@@ -33,7 +33,7 @@ use Rattle.monitor.specs.declared.Event.{Event}
 use Rattle.monitor.specs.declared.Event.the-variants.{Acts, Malformed}
 use Rattle.monitor.specs.declared.Enabled.the-variants.{Users, Refused}
 use Rattle.monitor.specs.Monitors.{admission}
-use Rattle.monitor.specs.Events.{readEvent, eventIn, isMalformed, tried, ownRefusals, eventRefusals, eventCode, entry, workspaceAfter, Outcome, outcome}
+use Rattle.monitor.specs.Events.{readEvent, eventIn, isMalformed, tried, ownRefusals, applied, eventRefusals, eventCode, entry, workspaceAfter, Outcome, outcome}
 use Rattle.monitor.specs.Enabled.{actionWord, mayAct, enabledMask, enabledOf, ActionNumberPlaysNoPart, BitIsAction, NoOtherBit, ClosedOrFullIsNobody, RefusalKeepsMask}
 use Rattle.monitor.specs.Private.{eachTried}
 use Rattle.monitor.proofs.Formed.{formed}
@@ -58,12 +58,31 @@ module _ (u a : ℕ) (h : u < 256) (k : a < 256) where
   unfolding readEvent
   read-action users roles = rw (no-high, its-kind, its-user, its-number)
 
+-- what does not look at the action's number
+alike : {X : Type 0} (m : Monitor) (u a : ℕ) → u < 256 → a < 256 → (f : Event → X) → f (Acts u a) ≡ f (Acts u 0)
+    → f (eventIn m (actionWord u a)) ≡ f (eventIn m (actionWord u 0))
+alike m u a h k f e =
+    ap f (read-action u a h k (m .configuration .users) (m .configuration .roles)) ∙ by (ltb u (m .configuration .users))
+    ∙ sym (ap f (read-action u 0 h (omega arith) (m .configuration .users) (m .configuration .roles)))
+  where
+    by : (b : Bool) → f (cond b (Acts u a) Malformed) ≡ f (cond b (Acts u 0) Malformed)
+    by true = e
+    by false = refl
+
+same-code : (m : Monitor) (n u a : ℕ) → u < 256 → a < 256 → eventCode m (actionWord u a) n ≡ eventCode m (actionWord u 0) n
+unfolding eventRefusals
+same-code m n u a h k = alike m u a h k (λ e. code (eventRefusals m e n)) refl
+
 pub action-number-plays-no-part : ActionNumberPlaysNoPart
 unfolding outcome eventRefusals
-action-number-plays-no-part m u a before h k =
-    by-test (ltb u (m .configuration .users))
-    (λ e. rw (read-action u a h k (m .configuration .users) (m .configuration .roles), read-action u 0 h (omega arith) (m .configuration .users) (m .configuration .roles), e))
-    (λ e. rw (read-action u a h k (m .configuration .users) (m .configuration .roles), read-action u 0 h (omega arith) (m .configuration .users) (m .configuration .roles), e))
+action-number-plays-no-part m u a before h k = alike m u a h k given refl
+  where
+    given : Event → Outcome
+    given e = record {
+      code = code (eventRefusals m e (length before));
+      monitor = cond (eqb (code (eventRefusals m e (length before))) 0) (applied m e) m;
+      workspace = workspaceAfter (m .configuration) (m .instance) e (code (eventRefusals m e (length before))) before;
+    }
 
 -- ── the trials ──
 pub some-user : (c : Configuration) → ConfigurationFormed c → 1 ≤ c .users
@@ -246,13 +265,6 @@ no-other-bit m n u h =
     bit-number digits u
     ∙ List·getD-eq-default digits false (omega (arith, length-map (range 0 (m .configuration .users)) (mayAct m n), range-length 0 (m .configuration .users)))
 
-same-code : (m : Monitor) (n u a : ℕ) → u < 256 → a < 256 → eventCode m (actionWord u 0) n ≡ eventCode m (actionWord u a) n
-unfolding eventRefusals
-same-code m n u a h k =
-    by-test (ltb u (m .configuration .users))
-    (λ e. rw (read-action u a h k (m .configuration .users) (m .configuration .roles), read-action u 0 h (omega arith) (m .configuration .users) (m .configuration .roles), e))
-    (λ e. rw (read-action u a h k (m .configuration .users) (m .configuration .roles), read-action u 0 h (omega arith) (m .configuration .users) (m .configuration .roles), e))
-
 pub bit-is-action : BitIsAction
 unfolding enabledMask
 bit-is-action m n u a h k = by (lt-or-le u (m .configuration .users))
@@ -269,7 +281,7 @@ bit-is-action m n u a h k = by (lt-or-le u (m .configuration .users))
         true≢false (sym (ap isMalformed is) ∙ z)
 
     by : (u < m .configuration .users) ⊎ (m .configuration .users ≤ u) → bit u (enabledMask m n) ≡ eqb (eventCode m (actionWord u a) n) 0
-    by (inl d) = here d ∙ ap (λ x. eqb x 0) (same-code m n u a h k)
+    by (inl d) = here d ∙ ap (λ x. eqb x 0) (sym (same-code m n u a h k))
     by (inr d) = no-other-bit m n u d ∙ sym (ne-eqb (eventCode m (actionWord u a) n) 0 (λ z. undeclared d (accepted-has-passed m e n z .in-layout)))
 
 pub refusal-keeps-mask : RefusalKeepsMask
