@@ -15,18 +15,12 @@ fn try_all(configuration: Configuration, instance: Instance, workspace: &mut [u3
     ensures { λ r. ⌜ record { mask = r; workspace = now (workspace .exit) } ≡ eachTried configuration instance (now (workspace .entry)) ⌝ }
 {
     let policy = instance.policy;
-    let words = instance.words as usize;
+    let words = &policy[..instance.words as usize];
     let rows = configuration.user_roles;
     let users = configuration.users as usize;
-    let met = units::met_each(&policy[..words], &rows[..users]);
+    let met = units::met_each(words, &rows[..users]);
     let actions = instance.actions;
-    workspace::try_users(
-        &policy[..words],
-        actions,
-        instance.taken,
-        &met[..users],
-        workspace,
-    )
+    workspace::try_users(words, actions, instance.taken, &met[..users], workspace)
 }
 
 impl Monitor {

@@ -31,14 +31,17 @@ module _ (s : tie.Start) where
   few = users-most (s .args .configuration) in-configuration
 
 -- ── the stages ──
-abbrev start : tie.After-struct-known2 → tie.Start
-start c = c .before .before .before .before .before
+abbrev start : tie.After-struct-known → tie.Start
+start c = c .before .before .before
+
+abbrev shared : tie.After-struct-known2 → tie.Start
+shared c = start (c .before .before .before)
 
 abbrev lent : tie.After-met-each → tie.Start
-lent c = start (c .before .before .before)
+lent c = shared (c .before .before)
 
 abbrev met : tie.After-met → tie.After-met-each
-met c = c .before .before .before
+met c = c .before .before
 
 abbrev called : tie.After-slice-known2 → tie.After-try-users
 called c = c .before .before
@@ -65,15 +68,13 @@ try-all-spec =
     tie.close
     (tie.spec
     (λ c. search needs)
-    (λ c. search needs)
     (λ c. words-within (start c))
     (λ c. sym (length-take-le _ _ (words-within (start (c .before)))))
-    (λ c. within (start (c .before)))
-    (λ c. sym (length-take-le _ _ (within (start (c .before .before)))))
+    (λ c. search needs)
+    (λ c. within (shared c))
+    (λ c. sym (length-take-le _ _ (within (shared (c .before)))))
     (λ c κs. search needs)
-    (λ c. words-within (lent (c .before)))
-    (λ c. sym (length-take-le _ _ (words-within (lent (c .before .before)))))
-    (λ c. users-laid (c .before .before))
+    (λ c. users-laid (c .before))
     (λ c. sym (length-take-le _ _ (users-laid (met c))))
     (λ c κs. search needs)
     (λ c. search needs)
