@@ -12,7 +12,7 @@ use borrow.Author.Tests.{le-leb, leb-true, lt-leb, lt-ltb, le-ltb, ltb-false, ne
 use Rattle.soda.specs.Bits.{bit, number}
 use Rattle.soda.specs.Lists.{range}
 use Rattle.soda.specs.Tables.{possible}
-use Rattle.soda.proofs.Bools.{by-test, and-split, so-lt, so-eq, eq-so}
+use Rattle.soda.proofs.Bools.{by-test, and-split, so-lt, so-eq, eq-so, lt-or-le}
 use Rattle.soda.proofs.Bits.{bit-number}
 use Rattle.soda.proofs.Lists.{range-length, map-below, map-same}
 use Rattle.policy.specs.Codes.{CLOSED}
@@ -21,7 +21,6 @@ use Rattle.policy.specs.Reading.{countOk}
 use Rattle.units.specs.Units.{metOf, metEach}
 use Rattle.units.proofs.Units.{each-is-met}
 use Rattle.workspace.specs.Workspace.{isFilled, filled}
-use Rattle.workspace.proofs.Digits.{lt-or-le}
 use Rattle.workspace.specs.Trials.{actionBy, canAct, Trials, trialsOf}
 use Rattle.instance.specs.declared.Configuration.{Configuration}
 use Rattle.instance.specs.declared.Instance.{Instance}

@@ -82,3 +82,7 @@ pub data Order (m n : ℕ) : Type 0 where
 pub order : (m n : ℕ) → Order m n
 order m n = by-test (ltb m n) (λ p. less (so-lt m n p))
     λ p. by-test (ltb n m) (λ q. more (so-lt n m q)) λ q. same (omega (arith, no-lt m n p, no-lt n m q))
+
+-- the two cases of two numbers
+pub lt-or-le : (m n : ℕ) → (m < n) ⊎ (n ≤ m)
+lt-or-le m n = by-test (ltb m n) (λ p. inl (so-lt m n p)) (λ p. inr (no-lt m n p))

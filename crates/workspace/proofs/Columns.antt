@@ -12,7 +12,7 @@ use lib.Seq.{getD-append-add, getD-drop, getD-take, ext-getD, length-take-le, ta
 use Rattle.soda.specs.Bits.{number}
 use Rattle.soda.specs.Lists.{all, range}
 use Rattle.soda.specs.Terms.{Term, size}
-use Rattle.soda.proofs.Bools.{and-split, so-lt}
+use Rattle.soda.proofs.Bools.{and-split, so-lt, lt-or-le}
 use Rattle.soda.proofs.Bits.{bit-number}
 use Rattle.soda.proofs.Lists.{range-length, map-below}
 use Rattle.shape.specs.Shapes.{rightSides}
@@ -21,7 +21,6 @@ use Rattle.workspace.specs.Workspace.{select, judged, rowOf, column, tab
 use Rattle.workspace.specs.Private.{Masked, Ascending, Listing, Operators, Coded, Suited, Cleared, RowsStand, Shaped}
 use Rattle.soda.specs.declared.Action.{Action}
 use Rattle.workspace.specs.declared.masks.Masks.{Masks}
-use Rattle.workspace.proofs.Digits.{lt-or-le}
 use Rattle.workspace.proofs.Select.{select-take}
 use Rattle.workspace.proofs.Subterms.{rights-length, ascending}
 use Rattle.workspace.proofs.Complete.{listing-same}

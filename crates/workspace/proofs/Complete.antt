@@ -13,8 +13,9 @@ use lib.Seq.{getD-set-same, getD-set-other}
 use Rattle.soda.specs.Bits.{bit}
 use Rattle.soda.proofs.Bools.{not-so, or-left, or-right, and-join}
 use Rattle.soda.proofs.Bits.{bit-of-zero}
-use Rattle.workspace.specs.Private.{place, Ascending, Listing, no-words, skips, lists, Operators, bySides, Finished}
-use Rattle.workspace.proofs.Digits.{bit-and, bit-or, bit-shr, bit-word}
+use Rattle.rows.specs.Rows.{place}
+use Rattle.rows.proofs.Digits.{bit-and, bit-or, bit-shr, bit-word}
+use Rattle.workspace.specs.Private.{Ascending, Listing, no-words, skips, lists, Operators, bySides, Finished}
 
 -- one word done: word i by its sides, the right one at k, and nothing else changes
 pub record Placed (either both row right i k row′ right′ : ℕ) : Type 0 where

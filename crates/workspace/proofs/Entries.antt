@@ -10,26 +10,30 @@ use borrow.Author.Tests.{lt-ltb}
 use lib.Bits.{bitAnd, bitOr, and-mask}
 use lib.Dec.{eqb}
 use lib.ListN.{length, getD, set, length-set, length-map, replicate, length-replicate, List·getD-eq-default}
-use lib.Pow.{pow-mono, pow-pos, low as low-digits}
+use lib.Pow.{pow-mono, pow-pos}
 use lib.Seq.{getD-set-same, getD-set-other}
 use Rattle.soda.specs.Bits.{bit, number}
 use Rattle.soda.specs.Lists.{all, range}
 use Rattle.soda.specs.Terms.{Term, size}
 use Rattle.soda.specs.Tables.{acts}
-use Rattle.soda.proofs.Bools.{same-test, eq-so, so-eq}
+use Rattle.soda.proofs.Bools.{same-test, eq-so, so-eq, lt-or-le}
 use Rattle.soda.proofs.Bits.{number-lt, bit-number, bit-of-zero}
 use Rattle.soda.proofs.Lists.{range-length, map-below}
 use Rattle.soda.proofs.Splits.{any-append}
 use Rattle.shape.specs.Shapes.{rightSides}
+use Rattle.rows.specs.Rows.{place, turnedRow, satisfiedIn, possibleIn}
+use Rattle.rows.specs.Notes.{noteOf, metIn, twinIn, usersIn}
+use Rattle.rows.proofs.Digits.{bit-and, bit-or, bit-shr, bit-power, bit-ext, bit-mask, bit-ones}
+use Rattle.rows.proofs.Turning.{bit-turned, satisfied-turned, possible-turned}
+use Rattle.rows.proofs.Noting.{met-noted, twin-noted, users-noted}
 use Rattle.workspace.specs.Workspace.{select, judged, rowOf}
-use Rattle.workspace.specs.Private.{place, Unpacked, noteOf, metIn, twinIn, usersIn, turnedRow, satisfiedIn, possibleIn, leftAt, rightAt, noteAt, Next, AlikePlaces, Twin, Suited, Acting, Noted, RowIs, RowOf, Entry, Known, StoredIs, StoredOf, Cleared, Entered, Added, Begun, AddedFrom, AddedAll, Written, RowsStand}
+use Rattle.workspace.specs.Private.{Unpacked, leftAt, rightAt, noteAt, Next, AlikePlaces, Twin, Suited, Acting, Noted, RowIs, RowOf, Entry, Known, StoredIs, StoredOf, Cleared, Entered, Added, Begun, AddedFrom, AddedAll, Written, RowsStand}
 use Rattle.soda.specs.declared.Action.{Action}
 use Rattle.workspace.specs.declared.masks.Masks.{Masks}
 use Rattle.workspace.specs.declared.tables.Stored.{Stored}
-use Rattle.workspace.proofs.Digits.{lt-or-le, bit-and, bit-or, bit-shr, bit-power, bit-ext, bit-mask, bit-ones}
 use Rattle.workspace.proofs.Select.{select-next, select-none}
 use Rattle.workspace.proofs.Exchange.{twin-perm, judged-twin, row-twin}
-use Rattle.workspace.proofs.Table.{stored, left-here, right-here, note-here, elsewhere, met-noted, twin-noted, users-noted}
+use Rattle.workspace.proofs.Table.{stored, left-here, right-here, note-here, elsewhere}
 
 -- ── a row as a word of the workspace ──
 row-number : (e : Bool) (φ : Term) (l : List Action) (s row right w : ℕ) → size φ ≤ 31 → RowIs φ (select s l) row right → Unpacked e row w → w < 2 ^ 32 → w ≡ rowOf e φ l s
@@ -49,48 +53,14 @@ row-number e φ l s row right w short r c h = bit-ext 32 w (number digits) h fit
     at i b (inl k) = r .here e i k ∙ sym (map-below (judged e φ (select s l)) false (size φ) i k)
     at i b (inr k) = r .past e i k b ∙ sym (List·getD-eq-default digits false (omega (arith, long)))
 
--- ── a row turned ──
--- what is above 2^31, and above 2^63, is read off by itself
-below-half : (q c : ℕ) → (q + 2147483648 * c) % 2147483648 ≡ q % 2147483648
-below-half q c = omega arith
+-- the columns of a row turned
+module _ (φ : Term) (l : List Action) (s row right : ℕ) (h : row < 18446744073709551616) (short : size φ ≤ 31) (r : RowIs φ (select s l) row right) where
+  turned-satisfied : satisfiedIn (turnedRow row) ≡ rowOf false φ l s
+  turned-satisfied = satisfied-turned row h ∙ row-number false φ l s row right (row % 2 ^ 32) short r
+      (λ i b. let z : i ≡ 0 + i = omega arith in ap (bit i) (sym (and-mask row 32)) ∙ bit-mask 32 i row b ∙ ap (λ q. bit q row) z) (omega arith)
 
-above-half : (q c : ℕ) → (q + 2147483648 * c) / 2147483648 ≡ q / 2147483648 + c
-above-half q c = omega arith
-
-above-all : (q b : ℕ) → q < 9223372036854775808 → (q + 9223372036854775808 * b) / 9223372036854775808 ≡ b
-above-all q b h = omega arith
-
-halves : (row : ℕ) → 2 * (row / 2 % 2147483648) + row % 2 ≡ row % 4294967296
-halves row = omega arith
-
-upper : (row b : ℕ) → row < 18446744073709551616 → (row / 2 / 2147483648 + 4294967296 * b) % 4294967296 ≡ row / 4294967296
-upper row b h = omega arith
-
-module _ (row : ℕ) (h : row < 18446744073709551616) where
-  pub bit-turned : (q : ℕ) → q < 63 → bit q (turnedRow row) ≡ bit (1 + q) row
-  bit-turned q k =
-      let n : turnedRow row ≡ row % 2 * 2 ^ 63 + row / 2 = omega arith in
-      let fits : row / 2 < 2 ^ 63 = omega arith in
-      ap (bit q) n ∙ sym (bit-mask 63 q (row % 2 * 2 ^ 63 + row / 2) k) ∙ ap (bit q) (and-mask (row % 2 * 2 ^ 63 + row / 2) 63 ∙ low-digits (row % 2) 63 fits) ∙ bit-shr q 1 row
-
-  in-halves : turnedRow row ≡ row / 2 + 2147483648 * (4294967296 * (row % 2))
-  in-halves = omega arith
-
-  satisfied-turned : satisfiedIn (turnedRow row) ≡ row % 2 ^ 32
-  satisfied-turned =
-      ap₂ (λ a b. 2 * a + b) (ap (λ n. n % 2147483648) in-halves ∙ below-half (row / 2) (4294967296 * (row % 2))) (above-all (row / 2) (row % 2) (omega arith)) ∙ halves row
-
-  possible-turned : possibleIn (turnedRow row) ≡ row / 2 ^ 32
-  possible-turned = ap (λ n. n / 2147483648 % 4294967296) in-halves ∙ ap (λ n. n % 4294967296) (above-half (row / 2) (4294967296 * (row % 2))) ∙ upper row (row % 2) h
-
-  -- the columns of a row
-  module _ (φ : Term) (l : List Action) (s right : ℕ) (short : size φ ≤ 31) (r : RowIs φ (select s l) row right) where
-    turned-satisfied : satisfiedIn (turnedRow row) ≡ rowOf false φ l s
-    turned-satisfied = satisfied-turned ∙ row-number false φ l s row right (row % 2 ^ 32) short r
-        (λ i b. let z : i ≡ 0 + i = omega arith in ap (bit i) (sym (and-mask row 32)) ∙ bit-mask 32 i row b ∙ ap (λ q. bit q row) z) (omega arith)
-
-    turned-possible : possibleIn (turnedRow row) ≡ rowOf true φ l s
-    turned-possible = possible-turned ∙ row-number true φ l s row right (row / 2 ^ 32) short r (λ i b. bit-shr i 32 row) (omega arith)
+  turned-possible : possibleIn (turnedRow row) ≡ rowOf true φ l s
+  turned-possible = possible-turned row h ∙ row-number true φ l s row right (row / 2 ^ 32) short r (λ i b. bit-shr i 32 row) (omega arith)
 
 -- ── one set entered ──
 -- what is stored of a twin's row
@@ -124,8 +94,8 @@ stored-row m ops sets met s twin row row-right left fits e r φ l u f g n p =
         rights = here .sided;
         acting = acting;
       };
-      satisfied = ap satisfiedIn e ∙ turned-satisfied row fits φ l s row-right (u .short) here;
-      possible = ap possibleIn e ∙ turned-possible row fits φ l s row-right (u .short) here;
+      satisfied = ap satisfiedIn e ∙ turned-satisfied φ l s row row-right fits (u .short) here;
+      possible = ap possibleIn e ∙ turned-possible φ l s row row-right fits (u .short) here;
     }
   where
     below-63 : (e : Bool) (i : ℕ) → i < 31 → place e i < 63

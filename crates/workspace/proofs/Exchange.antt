@@ -8,19 +8,20 @@ use native.Mathlib.Nat.{mod-lt, zero-lt-suc, pow-suc}
 use native.Mathlib.Omega.{arith}
 use lib.Arith.{bin-ind}
 use lib.Bits.{bitAnd, bitOr, and-step, and-self, and-comm, or-lt}
-use lib.Dec.{eqb}
+use lib.Dec.{eqb, ltb}
 use lib.ListN.{length, getD}
 use lib.Pow.{pow-mono, pow-lt}
 use Rattle.soda.specs.Bits.{bit, number}
 use Rattle.soda.specs.Lists.{range}
 use Rattle.soda.specs.Terms.{Term, size, termAt}
-use Rattle.soda.proofs.Bools.{not-so, and-split, and-join, or-split, so-eq}
+use Rattle.soda.proofs.Bools.{not-so, and-split, and-join, or-split, so-lt, so-eq, eq-so}
 use Rattle.soda.proofs.Bits.{bit-suc, bit-of-zero, even, odd}
 use Rattle.soda.proofs.Orders.{order-plays-no-part, perm-last}
+use Rattle.rows.specs.Twins.{isAlike, spareOf, firstOf, twinOf}
+use Rattle.rows.proofs.Digits.{bit-and, bit-or, bit-power}
 use Rattle.workspace.specs.Workspace.{select, judged, rowOf}
-use Rattle.workspace.specs.Private.{isAlike, AlikePlaces, Twin, itself, other-set, other-action}
+use Rattle.workspace.specs.Private.{AlikePlaces, Twin, itself, other-set, other-action}
 use Rattle.soda.specs.declared.Action.{Action}
-use Rattle.workspace.proofs.Digits.{bit-and, bit-or, bit-power}
 use Rattle.workspace.proofs.Submask.{Within, within-half, and-within, rest-half, rest-digit}
 use Rattle.workspace.proofs.Select.{is-odd, is-even, select-next}
 
@@ -64,14 +65,26 @@ lowest-digit = bin-ind (λ n. 0 < n → Digit n (n - bitAnd n (n - 1))) (λ h. a
     step n h ih (suc (suc d)) e = absurd (omega (arith, mod-lt n (zero-lt-suc 1)))
 
 -- t with the lowest place of alike that it lacks
-pub twin-action : (alike top t twin : ℕ) → (alike - bitAnd alike t ≡ 0 → ⊥)
-    → Twin alike top t twin (t + (alike - bitAnd alike t - bitAnd (alike - bitAnd alike t) (alike - bitAnd alike t - 1)))
+twin-action : (alike top t twin : ℕ) → (spareOf alike t ≡ 0 → ⊥) → Twin alike top t twin (t + firstOf (spareOf alike t))
 twin-action alike top t twin h =
     let spare : ℕ = alike - bitAnd alike t in
     let d = lowest-digit spare (omega arith) in
     let (p, q) = lacks (d .place) alike t (d .here) in
     let e : 2 ^ d .place + t ≡ t + (spare - bitAnd spare (spare - 1)) = omega (arith, d .is) in
     subst (Twin alike top t twin) e (other-action (d .place) p q)
+
+-- the twin that the code finds, which is not behind the set
+pub twin-found : (alike top t twin : ℕ) → top ≤ 4096 → t < top → alike < top → (twinOf alike top t twin ≤ top + t) × Twin alike top t twin (twinOf alike top t twin)
+twin-found alike top t twin few h k = by (eqb (spareOf alike t) 0) refl (ltb twin t) refl
+  where
+    is : (r : ℕ) → r ≤ top + t → Twin alike top t twin r → (r % 2 ^ 64 ≤ top + t) × Twin alike top t twin (r % 2 ^ 64)
+    is r b w = let z : r ≡ r % 2 ^ 64 = omega arith in (omega arith, subst (Twin alike top t twin) z w)
+
+    by : (b : Bool) → eqb (spareOf alike t) 0 ≡ b → (l : Bool) → ltb twin t ≡ l
+        → let r = cond b (top + cond l twin t) (t + firstOf (spareOf alike t)) % 2 ^ 64 in (r ≤ top + t) × Twin alike top t twin r
+    by true e true l = let b = so-lt twin t l in is (top + twin) (omega arith) (other-set b)
+    by true e false l = is (top + t) (omega arith) itself
+    by false e b l = is (t + firstOf (spareOf alike t)) (omega arith) (twin-action alike top t twin (λ z. true≢false (sym (eq-so (spareOf alike t) 0 z) ∙ e)))
 
 -- ── the actions of twins ──
 module _ {A : Type 0} where

@@ -18,9 +18,9 @@ use Rattle.soda.proofs.Bits.{bit-of-zero}
 use Rattle.soda.proofs.Splits.{split-swap}
 use Rattle.soda.proofs.Tables.{Judgement, Halves, together-in, together-out, apart-in, apart-out}
 use Rattle.soda.proofs.Joins.{disjoint-in, disjoint-out}
+use Rattle.rows.proofs.Digits.{bit-and, no-bits}
 use Rattle.workspace.specs.Workspace.{select}
 use Rattle.workspace.specs.Private.{Part}
-use Rattle.workspace.proofs.Digits.{bit-and, no-bits}
 use Rattle.workspace.proofs.Submask.{within-le}
 use Rattle.workspace.proofs.Select.{select-none, cut, Cut, uncut}
 

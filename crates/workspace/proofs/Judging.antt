@@ -18,11 +18,13 @@ use Rattle.soda.proofs.Terms.{stands-here, bit-standing, bit-marks-past, size-p
 use Rattle.soda.proofs.Tables.{empty-set}
 use Rattle.soda.proofs.Parts.{part-is-possible, satisfied-is-possible}
 use Rattle.shape.specs.Shapes.{isPlus, isOp, rightSides}
+use Rattle.rows.specs.Rows.{place, Packed, Chance, based}
+use Rattle.rows.specs.Notes.{usersIn}
+use Rattle.rows.proofs.Digits.{bit-or, bit-ones, in-both}
 use Rattle.workspace.specs.Workspace.{select, judged}
-use Rattle.workspace.specs.Private.{place, Packed, usersIn, leftAt, noteAt, Part, Joined, matchedApart, jointly, Chance, based, bySides, Finished, Suited, RowIs, SidesAt}
+use Rattle.workspace.specs.Private.{leftAt, noteAt, Part, Joined, matchedApart, jointly, bySides, Finished, Suited, RowIs, SidesAt}
 use Rattle.soda.specs.declared.Action.{Action}
 use Rattle.workspace.specs.declared.masks.Masks.{Masks}
-use Rattle.workspace.proofs.Digits.{bit-or, bit-ones}
 use Rattle.workspace.proofs.Submask.{Within}
 use Rattle.workspace.proofs.Select.{cut}
 use Rattle.workspace.proofs.Subterms.{Stood, stood, stood-left, stood-right, right-side, right-inside, rights-length}
@@ -83,11 +85,6 @@ module _ (e n m m1 l r : Bool) where
 
   form-joint : (j a b : Bool) → (a || b) ≡ true → form e n m m1 j l r false false false false a b ≡ (j || (e && (l || r)))
   form-joint j a b o = simp (o, and-true, and-false, or-false)
-
--- a mask that is the same in both columns
-pub in-both : (e : Bool) (a r i : ℕ) → i < 32 → Packed a a r → bit (place e i) r ≡ bit i a
-in-both true a r i h p = p true i h
-in-both false a r i h p = p false i h
 
 -- an operator that is no unit term by itself
 is-joint : (op : Op) (α β : Term) → unitOp op ≡ false → So (isOp together (bin op α β) || isOp apart (bin op α β))

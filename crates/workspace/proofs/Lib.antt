@@ -1,4 +1,3 @@
-pub mod Digits
 pub mod Submask
 pub mod Select
 pub mod Walk

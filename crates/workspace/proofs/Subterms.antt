@@ -8,11 +8,10 @@ use native.Mathlib.Omega.{arith}
 use lib.ListN.{length, getD, length-append, List·getD-append}
 use lib.Seq.{getD-append-add}
 use Rattle.soda.specs.Terms.{Op, together, apart, Term, everyone, role, set, ¬ᵗ_, _⁺, bin, unit, wellFormed, size, subterms, termAt}
-use Rattle.soda.proofs.Bools.{and-split}
+use Rattle.soda.proofs.Bools.{and-split, lt-or-le}
 use Rattle.soda.proofs.Terms.{size-pos, subterms-length, Stands, stands-whole, stands-not, stands-plus, stands-left, stands-right}
 use Rattle.shape.specs.Shapes.{isOp, rightSides}
 use Rattle.workspace.specs.Private.{Ascending}
-use Rattle.workspace.proofs.Digits.{lt-or-le}
 
 pub rights-length : (i : ℕ) (φ : Term) → length (rightSides i φ) ≡ size φ
 rights-length i everyone = refl

@@ -1,11 +1,11 @@
--- The table of sets: what the three stores of a set leave there, and what a note unpacks to.
+-- The table of sets: what the three stores of a set leave there.
 use mathlib.Core.Path.{_≡_, _∙_}
 use mathlib.Core.List.{List}
 use Prim.Native.Nat.{ℕ, _+_, _*_, _<_}
 use native.Mathlib.Omega.{arith}
 use lib.ListN.{length, getD, set, length-set}
 use lib.Seq.{getD-set-same, getD-set-other}
-use Rattle.workspace.specs.Private.{noteOf, metIn, twinIn, usersIn, leftAt, rightAt, noteAt}
+use Rattle.workspace.specs.Private.{leftAt, rightAt, noteAt}
 
 module _ (sets : List ℕ) (s left right note : ℕ) where
   one : List ℕ
@@ -39,14 +39,3 @@ module _ (sets : List ℕ) (s left right note : ℕ) where
   elsewhere k h =
       getD-set-other two (3 * s + 2) k note 0 (λ q. omega arith) ∙ getD-set-other one (3 * s + 1) k right 0 (λ q. omega arith)
       ∙ getD-set-other sets (3 * s) k left 0 (λ q. omega arith)
-
-module _ (users twin met : ℕ) (h : met < 4294967296) where
-  pub met-noted : metIn (noteOf users twin met) ≡ met
-  met-noted = omega arith
-
-  module _ (k : twin < 65536) where
-    pub twin-noted : twinIn (noteOf users twin met) ≡ twin
-    twin-noted = omega arith
-
-    pub users-noted : usersIn (noteOf users twin met) ≡ users
-    users-noted = omega arith

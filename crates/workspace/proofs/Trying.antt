@@ -16,15 +16,17 @@ use Rattle.soda.specs.Lists.{range}
 use Rattle.soda.specs.Terms.{Term}
 use Rattle.soda.specs.Tables.{possible}
 use Rattle.soda.specs.declared.Action.{Action}
-use Rattle.soda.proofs.Bools.{Order, less, same, more, order, eq-so, not-so, so-eq}
+use Rattle.soda.proofs.Bools.{Order, less, same, more, order, eq-so, not-so, so-eq, lt-or-le}
 use Rattle.soda.proofs.Bits.{bit-number, number-lt, bit-of-zero}
 use Rattle.soda.proofs.Lists.{range-length, map-below}
 use Rattle.soda.proofs.Renaming.{new-user-is-renamed}
+use Rattle.rows.specs.Rows.{possibleIn}
+use Rattle.rows.specs.Notes.{metIn, twinIn, usersIn}
+use Rattle.rows.proofs.Digits.{bit-ext}
 use Rattle.workspace.specs.Workspace.{select, rowOf}
 use Rattle.workspace.specs.Trials.{actionBy, canAct}
-use Rattle.workspace.specs.Private.{metIn, twinIn, usersIn, possibleIn, leftAt, rightAt, noteAt, Suited, Acting, Noted, Sides, Known, UsersBetween, AddedFrom, AddedAll, Like, itself, another, Marked, Judges, Tries, LastActs, TriesEach}
+use Rattle.workspace.specs.Private.{leftAt, rightAt, noteAt, Suited, Acting, Noted, Sides, Known, UsersBetween, AddedFrom, AddedAll, Like, itself, another, Marked, Judges, Tries, LastActs, TriesEach}
 use Rattle.workspace.specs.declared.masks.Masks.{Masks}
-use Rattle.workspace.proofs.Digits.{lt-or-le, bit-ext}
 use Rattle.workspace.proofs.Select.{select-take}
 use Rattle.workspace.proofs.Columns.{row-take}
 use Rattle.workspace.proofs.Verdicts.{row-whole, select-all}

@@ -12,10 +12,11 @@ use lib.Dec.{eqb}
 use lib.ListN.{getD}
 use lib.Pow.{pow-pos}
 use Rattle.soda.specs.Bits.{bit}
-use Rattle.soda.proofs.Bools.{and-split, and-join, or-split, or-left, or-right, Order, less, same, more, order}
+use Rattle.soda.proofs.Bools.{and-split, and-join, or-split, or-left, or-right, Order, less, same, more, order, lt-or-le}
 use Rattle.soda.proofs.Bits.{bit-of-zero}
-use Rattle.workspace.specs.Private.{usersIn, leftAt, rightAt, noteAt, Part, PartAt, Parted, Gathered, Joined, Next, matched, allowed, matchedApart}
-use Rattle.workspace.proofs.Digits.{lt-or-le, bit-and, bit-or}
+use Rattle.rows.specs.Notes.{usersIn}
+use Rattle.rows.proofs.Digits.{bit-and, bit-or}
+use Rattle.workspace.specs.Private.{leftAt, rightAt, noteAt, Part, PartAt, Parted, Gathered, Joined, Next, matched, allowed, matchedApart}
 use Rattle.workspace.proofs.Submask.{Within, Lowest, lowest, within-le, and-within, rest-within, walk, within-more, within-less}
 
 -- ── the parts of s by those of t ──

@@ -2,7 +2,7 @@
 use mathlib.Core.Path.{_≡_}
 use mathlib.Core.Bool.{Bool, true, false, So, _&&_, _||_, cond}
 use mathlib.Core.List.{List, [], _∷_, _++_, Perm}
-use Prim.Native.Nat.{ℕ, suc, _+_, _-_, _*_, _/_, _%_, _^_, _≤_, _<_}
+use Prim.Native.Nat.{ℕ, suc, _+_, _-_, _*_, _^_, _≤_, _<_}
 use lib.Bits.{bitAnd, bitOr}
 use lib.Dec.{eqb}
 use lib.ListN.{length, getD, take}
@@ -13,6 +13,8 @@ use Rattle.soda.specs.Tables.{acts, possible}
 use Rattle.policy.specs.Words.{decode, termOf}
 use Rattle.shape.specs.Shapes.{isOp, rightSides, termShape}
 use Rattle.shape.specs.declared.Shape.{Shape}
+use Rattle.rows.specs.Rows.{place, Packed, satisfiedIn, possibleIn}
+use Rattle.rows.specs.Notes.{metIn, twinIn, usersIn}
 use Rattle.workspace.specs.Workspace.{select, judged, rowOf, isFilled, fillOf}
 use Rattle.workspace.specs.Trials.{actionBy, canAct}
 use Rattle.soda.specs.declared.Action.{Action}
@@ -20,14 +22,6 @@ use Rattle.workspace.specs.declared.masks.Masks.{Masks}
 use Rattle.workspace.specs.declared.tables.Stored.{Stored}
 
 -- ── packed rows ──
--- where word i stands in a row: satisfied in digits 0 to 31, possible in digits 32 to 63
-abbrev pub place : Bool → ℕ → ℕ
-place e i = cond e 32 0 + i
-
--- r packs a mask for each column
-abbrev pub Packed : ℕ → ℕ → ℕ → Type 0
-Packed satisfied possible r = (e : Bool) (i : ℕ) → i < 32 → bit (place e i) r ≡ bit i (cond e possible satisfied)
-
 -- r is one column of a row
 abbrev pub Unpacked : Bool → ℕ → ℕ → Type 0
 Unpacked e row r = (i : ℕ) → i < 32 → bit i r ≡ bit (place e i) row
@@ -43,29 +37,6 @@ pub record Masked (p : Shape) (m : Masks) : Type 0 where
   pub anyone : Packed (p .together) (p .together) (m .anyone)
 
 -- ── the table of sets ──
--- a note packs what all actions of a set met, in digits 0 to 31, a twin in digits 32 to 47, and its users from digit 48 on
-abbrev pub noteOf : ℕ → ℕ → ℕ → ℕ
-noteOf users twin met = met + 4294967296 * (twin + 65536 * users)
-
-abbrev pub metIn : ℕ → ℕ
-metIn note = note % 4294967296
-
-abbrev pub twinIn : ℕ → ℕ
-twinIn note = note / 4294967296 % 65536
-
-abbrev pub usersIn : ℕ → ℕ
-usersIn note = note / 281474976710656
-
--- a row turned by one digit has the digits of the words' left sides, and its first digit stands last; and what the columns of such a row are
-abbrev pub turnedRow : ℕ → ℕ
-turnedRow row = row / 2 + 9223372036854775808 * (row % 2)
-
-abbrev pub satisfiedIn : ℕ → ℕ
-satisfiedIn left = 2 * (left % 2147483648) + left / 9223372036854775808
-
-abbrev pub possibleIn : ℕ → ℕ
-possibleIn left = left / 2147483648 % 4294967296
-
 -- the set x has three numbers: its turned row, its row's digits at the words' right sides, and its note
 abbrev pub leftAt : List ℕ → ℕ → ℕ
 leftAt sets x = getD sets (3 * x) 0
@@ -123,15 +94,7 @@ matchedApart sets anyone s x q = matched sets s x q && allowed sets anyone s x q
 abbrev pub jointly : ℕ → ℕ → List ℕ → ℕ → ℕ → ℕ → Bool
 jointly joint anyone sets s x q = bit q joint && matchedApart sets anyone s x q
 
--- the words of `joint` that two sets are possible for, by their digits at left sides, where possible begins at digit 31
-abbrev pub Chance : ℕ → ℕ → ℕ → ℕ → Type 0
-Chance joint one two r = (e : Bool) (i : ℕ) → i < 32 → bit (place e i) r ≡ (bit (place e i) joint && (bit (31 + i) one && bit (31 + i) two))
-
 -- ── a row from its own digits ──
--- what the rows "unit" and "plus" give: `met` packs the unit terms that all actions met, and `ones` is the number of the actions
-abbrev pub based : ℕ → ℕ → ℕ → ℕ → ℕ → Bool
-based units plus met ones q = (eqb ones 1 && (bit q met && bit q units)) || (bit (1 + q) met && bit q plus)
-
 -- each right side begins behind its word
 pub record Ascending (places : List ℕ) : Type 0 where
   pub short : length places ≤ 31
@@ -167,10 +130,6 @@ pub record Finished (base either both : ℕ) (places : List ℕ) (row right : �
   pub sided : (e : Bool) (i : ℕ) → i < length places → So (bit (place true i) either) → bit (place e i) right ≡ bit (place e (getD places i 0)) row
 
 -- ── twins ──
--- by one user, who met the same unit terms
-abbrev pub isAlike : Action → Action → Bool
-isAlike a b = eqb (a .user) (b .user) && eqb (a .met) (b .met)
-
 -- r has places before j, at which stands the action of place j
 pub record AlikePlaces (l : List Action) (j r : ℕ) : Type 0 where
   pub below : r < 2 ^ j

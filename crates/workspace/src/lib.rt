@@ -1,6 +1,5 @@
 // The workspace: for each set of taken actions, which terms of the policy it satisfies and which are possible.
-// A set of actions is a mask over their places. A row packs both columns into one number: bit i says whether the set satisfies
-// the term at word i, bit 32 + i whether it is possible for it.
+// A set of actions is a mask over their places. Its row packs both columns into one number (`rows`).
 ghost use mathlib.Core.Path.{_≡_};
 ghost use Prim.Native.Nat.{_≤_};
 ghost use lib.Dec.{ltb};
@@ -11,9 +10,8 @@ ghost use Rattle.workspace.specs.Trials.{trialsOf};
 ghost use Rattle.workspace.specs.Private.{FillsTrying};
 
 mod masks;
-mod notes;
 mod parts;
-mod rows;
+mod row;
 mod sizes;
 mod tables;
 mod trials;

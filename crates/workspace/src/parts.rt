@@ -1,14 +1,9 @@
 // The ways to part a set in two, walked for the words of together and apart.
-ghost use mathlib.Core.Path.{_≡_};
-ghost use mathlib.Core.Bool.{_&&_, cond};
 ghost use Prim.Native.Nat.{ℕ, _+_, _*_, _≤_, _<_};
-ghost use lib.Bits.{bitAnd};
-ghost use lib.Dec.{eqb};
 ghost use lib.ListN.{length};
-ghost use Rattle.workspace.specs.Private.{PartAt, Parted, Gathered, Joined, Next, matched, matchedApart, jointly, Chance};
-use super::masks::packed;
-use super::masks::unpacked;
-use super::notes::users_in;
+ghost use Rattle.workspace.specs.Private.{PartAt, Parted, Gathered, Joined, Next, matched, matchedApart, jointly};
+use rows::counted;
+use rows::users_in;
 
 // What parts of a set have at left sides while their rests have it at right sides, and the other way round.
 struct Found {
@@ -28,13 +23,6 @@ fn found_at(sets: &[u64], found: Found, whole: usize, a: usize) -> Found
         ahead: found.ahead | (sets[a] & sets[b + 1]),
         back: found.back | (sets[b] & sets[a + 1]),
     }
-}
-
-// What counts of x for two parts: where they share a user, only the words at which that does not matter.
-fn counted(x: u64, shared: u16, anyone: u64) -> u64
-    ensures { λ r. ⌜ r ≡ cond (eqb shared 0) x (bitAnd x anyone) ⌝ }
-{
-    if shared == 0 { x } else { x & anyone }
 }
 
 // The words of one part, both ways; but where it shares a user with its rest, only the words of anyone.
@@ -86,15 +74,6 @@ fn joined_apart(sets: &[u64], anyone: u64, s: usize, t: usize) -> u64
         a = (a - 1) & high;
     }
     acc
-}
-
-// The words of joint that two sets, by their digits at left sides, are both possible for. No others can be found for a set that both
-// are parts of: a part of a possible set is possible, and what satisfies is possible.
-pub(crate) fn chance(joint: u64, one: u64, two: u64) -> u64
-    ensures { λ r. ⌜ Chance joint one two r ⌝ }
-{
-    let possible = unpacked(one & two, 31);
-    packed(possible, possible) & joint
 }
 
 // The parts of s at the words of joint, of together and apart; a single action has none. Where no word of apart is left, users need

@@ -10,7 +10,7 @@ ghost use Rattle.workspace.specs.Trials.{canAct};
 ghost use Rattle.workspace.specs.Private.{Coded, Cleared, RowsStand, LastActs, TriesEach, Shaped};
 use super::masks::Masks;
 use super::masks::masks_of;
-use super::rows::operators;
+use super::row::operators;
 use super::tables::fill_tables;
 use shape::Shape;
 use soda::Action;

@@ -8,17 +8,17 @@ ghost use lib.ListN.{length, take};
 ghost use Rattle.soda.specs.Lists.{all};
 ghost use Rattle.workspace.specs.Private.{Next, Coded, StoredOf, Entered, Added, Begun, UsersBetween, AddedFrom, Written, RowsStand, TriesEach};
 use super::masks::Masks;
-use super::masks::possible_in;
-use super::masks::satisfied_in;
-use super::masks::turned;
-use super::notes::met_in;
-use super::notes::note_of;
-use super::notes::twin_in;
-use super::notes::users_in;
-use super::rows::row_of;
+use super::row::row_of;
 use super::trials::try_each;
 use super::twins::alike_of;
-use super::twins::twin_of;
+use rows::met_in;
+use rows::note_of;
+use rows::possible_in;
+use rows::satisfied_in;
+use rows::turned;
+use rows::twin_in;
+use rows::twin_of;
+use rows::users_in;
 use soda::Action;
 
 // What the table keeps of a row.

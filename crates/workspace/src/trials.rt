@@ -3,11 +3,12 @@ ghost use mathlib.Core.Path.{_≡_};
 ghost use Prim.Native.Nat.{_+_, _*_, _-_, _≤_, _<_, _^_};
 ghost use lib.ListN.{length};
 ghost use Rattle.soda.specs.Bits.{bit};
-ghost use Rattle.workspace.specs.Private.{possibleIn, leftAt, Coded, AddedAll, Like, Judges, Tries, Marked, TriesEach};
+ghost use Rattle.rows.specs.Rows.{possibleIn};
+ghost use Rattle.workspace.specs.Private.{leftAt, Coded, AddedAll, Like, Judges, Tries, Marked, TriesEach};
 use super::masks::Masks;
-use super::masks::possible_in;
-use super::notes::users_in;
 use super::tables::add_from;
+use rows::possible_in;
+use rows::users_in;
 use soda::Action;
 
 // Whether the first n actions are possible, by the table.

@@ -4,8 +4,8 @@ use Prim.Native.Nat.{ℕ, _-_, _*_, _%_, _≤_, _^_}
 use native.Mathlib.Omega.{arith}
 use lib.Pow.{pow-pos}
 use borrow.Author.Needs.{needs}
-use Rattle.workspace.specs.Private.{Packed}
 use Rattle.soda.proofs.Bits.{one-shl}
+use Rattle.rows.specs.Rows.{Packed}
 use Rattle.workspace.proofs.masks.masks_of.Statement.{statement}
 use Rattle.workspace.proofs.masks.masks_of.Tie as tie
 

@@ -5,8 +5,9 @@ use borrow.Author.Needs.{needs}
 use lib.Bits.{bitAnd}
 use lib.Dec.{eqb}
 use Rattle.soda.specs.Bits.{bit}
-use Rattle.workspace.specs.Private.{usersIn, noteAt, Joined, matched}
-use Rattle.workspace.proofs.Digits.{bit-and}
+use Rattle.rows.specs.Notes.{usersIn}
+use Rattle.rows.proofs.Digits.{bit-and}
+use Rattle.workspace.specs.Private.{noteAt, Joined, matched}
 use Rattle.workspace.proofs.Walk.{joined-one, joined-none, joined-masked, any-user}
 use Rattle.workspace.proofs.parts.joints.Statement.{statement}
 use Rattle.workspace.proofs.parts.joints.Tie as tie

@@ -1,10 +1,13 @@
 -- The invariant: the sets of the actions before place j, and those below t with the action there, are entered.
+use mathlib.Core.Path.{sym, subst}
 use Prim.Native.Nat.{_+_, _-_, _*_, _%_, _≤_, _<_, _^_}
 use native.Mathlib.Omega.{arith}
 use lib.ListN.{length}
 use borrow.Author.Count.{falls}
 use borrow.Author.Needs.{needs}
 use Rattle.soda.proofs.Bits.{one-shl}
+use Rattle.workspace.specs.Private.{Twin}
+use Rattle.workspace.proofs.Exchange.{twin-found}
 use Rattle.workspace.proofs.Entries.{Adding, add-begin, add-next, add-room, add-below, add-turn, add-end}
 use Rattle.workspace.proofs.tables.add.Statement.{statement}
 use Rattle.workspace.proofs.tables.add.Tie as tie
@@ -49,16 +52,21 @@ long c =
     let at = c .before .loop in
     omega (arith, add-room _ _ _ _ _ _ _ _ _ _ (at .inv) (c .loop-test .taken), start (c .before) .pre .4, at .inv .lengths)
 
-twin-of-requires : tie.Need-twin-of-requires Inv-loop μ-loop
-twin-of-requires c κs =
-    let t = turn (c .before .before) in
-    (omega (arith, below t), t .loop-test .taken, omega (arith, start (t .before) .pre .2, t .before .loop .inv .is-top))
+-- the twin found is not behind the set
+found : (c : tie.After-twin-of Inv-loop μ-loop) → let t = turn (met-read c) in let s = start (t .before) in let top = 1 * 2 ^ s .args .j % 2 ^ 64 in
+    (c .twin-of .result ≤ top + t .before .loop .t) × Twin (s .args .alike) top (t .before .loop .t) (c .before .twin-in .result) (c .twin-of .result)
+found c =
+    let t = turn (met-read c) in
+    let s = start (t .before) in
+    let top = 1 * 2 ^ s .args .j % 2 ^ 64 in
+    subst (λ r. (r ≤ top + t .before .loop .t) × Twin (s .args .alike) top (t .before .loop .t) (c .before .twin-in .result) r) (sym (c .twin-of .ensures))
+    (twin-found (s .args .alike) top (t .before .loop .t) (c .before .twin-in .result) (omega (arith, below t)) (t .loop-test .taken) (omega (arith, s .pre .2, t .before .loop .inv .is-top)))
 
 enter-requires : tie.Need-enter-requires Inv-loop μ-loop
 enter-requires c κs =
     let twin = c .before in
     let t = turn (met-read twin) in
-    (below t, twin .twin-of .ensures .0, start (t .before) .pre .3, λ h. add-next _ _ _ _ _ _ _ _ _ _ (t .before .loop .inv) (t .loop-test .taken), long t)
+    (below t, found twin .0, start (t .before) .pre .3, λ h. add-next _ _ _ _ _ _ _ _ _ _ (t .before .loop .inv) (t .loop-test .taken), long t)
 
 loop-again : tie.Need-loop-again Inv-loop μ-loop
 loop-again c =
@@ -67,7 +75,7 @@ loop-again c =
     let met = met-read twin in
     let t = turn met in
     add-turn _ _ _ _ _ _ _ _ _ _ (t .before .loop .inv) (t .loop-test .taken) (set .last .1 .1 .1 .1 .1 .1 .1 .0) _ _ _ _
-    (met .before .users-in .ensures) (met .met-in .ensures) (twin .before .twin-in .ensures) (set .kept .1 .1 .1 .1 .1 .1 .1 .0) (twin .twin-of .ensures .1) (set .ensures)
+    (met .before .users-in .ensures) (met .met-in .ensures) (twin .before .twin-in .ensures) (set .kept .1 .1 .1 .1 .1 .1 .1 .0) (found twin .1) (set .ensures)
 
 pub add-spec : {M : Type 1} → statement M
 add-spec =
@@ -86,7 +94,7 @@ add-spec =
     (λ c κs. search needs)
     (λ c κs. search needs)
     (λ c κs. search needs)
-    twin-of-requires
+    (λ c κs. search needs)
     (λ c. record { fits = omega (arith, below (turn (met-read c))) })
     enter-requires
     (λ c. record { fits = omega (arith, below (turned c)) })

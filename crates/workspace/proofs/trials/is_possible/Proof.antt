@@ -6,7 +6,8 @@ use lib.Pow.{pow-mono, pow-pos}
 use borrow.Author.Needs.{needs}
 use Rattle.soda.specs.Bits.{bit}
 use Rattle.soda.proofs.Bits.{low-bit, one-shl}
-use Rattle.workspace.specs.Private.{possibleIn, leftAt}
+use Rattle.rows.specs.Rows.{possibleIn}
+use Rattle.workspace.specs.Private.{leftAt}
 use Rattle.workspace.proofs.trials.is_possible.Statement.{statement}
 use Rattle.workspace.proofs.trials.is_possible.Tie as tie
 

@@ -6,7 +6,7 @@ use lib.Dec.{eqb}
 use borrow.Author.Needs.{needs}
 use Rattle.soda.specs.Bits.{bit}
 use Rattle.soda.proofs.Bits.{one-shl}
-use Rattle.workspace.proofs.Digits.{bit-or, bit-power}
+use Rattle.rows.proofs.Digits.{bit-or, bit-power}
 use Rattle.workspace.proofs.trials.marked.Statement.{statement}
 use Rattle.workspace.proofs.trials.marked.Tie as tie
 

@@ -6,7 +6,8 @@ use lib.ListN.{length}
 use lib.Pow.{pow-mono, pow-pos}
 use borrow.Author.Needs.{needs}
 use Rattle.soda.proofs.Bits.{one-shl}
-use Rattle.workspace.specs.Private.{usersIn, noteAt, AddedAll}
+use Rattle.rows.specs.Notes.{usersIn}
+use Rattle.workspace.specs.Private.{noteAt, AddedAll}
 use Rattle.workspace.proofs.Trying.{Trying, try-begin, try-turn, try-end, try-nobody, try-no-action}
 use Rattle.workspace.proofs.trials.try_each.Statement.{statement}
 use Rattle.workspace.proofs.trials.try_each.Tie as tie

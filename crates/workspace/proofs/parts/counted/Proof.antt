@@ -1,7 +1,0 @@
--- Each answer by the test that led to it.
-use borrow.Author.Tests.{eq-eqb, ne-eqb}
-use Rattle.workspace.proofs.parts.counted.Statement.{statement}
-use Rattle.workspace.proofs.parts.counted.Tie as tie
-
-pub counted-spec : {M : Type 1} → statement M
-counted-spec = tie.close (tie.spec (λ c. simp (eq-eqb _ _ (c .if1 .taken))) (λ c. simp (ne-eqb _ _ (c .if1 .left))))
