@@ -40,7 +40,7 @@ pub enum Status {
     Refused(u8),
 }
 
-// Who may act (document 02: who may act, shown bright): a set of users, bit u for user u, or a refusal's number.
+// Who may act (document 02: light up who may act): a set of users, bit u for user u, or a refusal's number.
 pub enum Enabled {
     Users(u16),
     Refused(u8),
