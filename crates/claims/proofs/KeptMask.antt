@@ -1,10 +1,10 @@
 -- An accepted event's mask is asked for; a refused event leaves the monitor, and so the mask. Among workspaces that are long enough the
 -- length plays no part.
 use mathlib.Core.Path.{_≡_, refl, sym, ap, _∙_}
-use mathlib.Core.Bool.{Bool, true, false, cond}
+use mathlib.Core.Bool.{true, false, cond}
 use mathlib.Core.List.{List, [], _∷_, _++_, map}
 use Prim.Native.Nat.{ℕ, _≤_}
-use lib.Dec.{ltb, eqb}
+use lib.Dec.{eqb}
 use borrow.Author.Tests.{le-ltb}
 use Rattle.soda.specs.Bits.{number}
 use Rattle.soda.specs.Lists.{range}
