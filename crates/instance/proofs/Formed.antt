@@ -40,6 +40,9 @@ policy-ok users roles words k = record {
 pub count-most : (n : ℕ) → So (countOk n) → n ≤ 16
 count-most n h = leb-true n 16 (and-split (leb 1 n) (leb n 16) h .1)
 
+pub count-least : (n : ℕ) → So (countOk n) → 1 ≤ n
+count-least n h = leb-true 1 n (and-split (leb 1 n) (leb n 16) h .0)
+
 pub words-few : {users roles : ℕ} (words : List ℕ) → PolicyOk users roles words → length words ≤ 31
 words-few words r = length-range (length words) (r .long) .1
 
@@ -77,6 +80,9 @@ module _ (c : Configuration) where
   module _ (f : ConfigurationFormed c) where
     pub users-most : c .users ≤ 16
     users-most = counts-most (c .users) (c .roles) (f .counts) .0
+
+    pub users-least : 1 ≤ c .users
+    users-least = count-least (c .users) (and-split (countOk (c .users)) (countOk (c .roles)) (f .counts) .0)
 
     pub roles-most : c .roles ≤ 16
     roles-most = counts-most (c .users) (c .roles) (f .counts) .1

@@ -1,14 +1,12 @@
 -- What loops keep that test all elements from a place on.
 use mathlib.Core.Path.{_≡_, sym, ap, _∙_}
 use mathlib.Core.Bool.{Bool, true, false, _&&_}
-use mathlib.Core.List.{List, _++_}
-use Prim.Native.Nat.{ℕ, suc, _+_, _-_, _≤_, _<_}
-use native.Mathlib.Nat.{le-of-lt}
-use native.Mathlib.Omega.{arith}
+use mathlib.Core.List.{List}
+use Prim.Native.Nat.{ℕ, _+_, _≤_, _<_}
 use native.Mathlib.Numerals.{add-one}
 use lib.ListN.{length, getD, drop, drop-of-length-le}
 use lib.Seq.{drop-cons}
-use Rattle.soda.specs.Lists.{all, padded}
+use Rattle.soda.specs.Lists.{all}
 
 -- A loop that tests elements one by one, and is at place i: the test of all, which is b, is that of those from i on.
 module _ {A : Type 0} (f : A → Bool) (xs : List A) (d : A) (i : ℕ) {b : Bool} (kept : b ≡ all f (drop i xs)) where

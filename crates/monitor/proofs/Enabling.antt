@@ -12,12 +12,11 @@ use borrow.Author.Tests.{le-leb, leb-true, lt-leb, lt-ltb, le-ltb, ltb-false, ne
 use Rattle.soda.specs.Bits.{bit, number}
 use Rattle.soda.specs.Lists.{range}
 use Rattle.soda.specs.Tables.{possible}
-use Rattle.soda.proofs.Bools.{by-test, and-split, so-lt, so-eq, eq-so, lt-or-le}
+use Rattle.soda.proofs.Bools.{by-test, so-lt, so-eq, eq-so, lt-or-le}
 use Rattle.soda.proofs.Bits.{bit-number}
 use Rattle.soda.proofs.Lists.{range-length, map-below, map-same}
 use Rattle.policy.specs.Codes.{CLOSED}
 use Rattle.policy.specs.Refusals.{code}
-use Rattle.policy.specs.Reading.{countOk}
 use Rattle.units.specs.Units.{metOf, metEach}
 use Rattle.units.proofs.Units.{each-is-met}
 use Rattle.workspace.specs.Workspace.{isFilled, filled}
@@ -26,7 +25,7 @@ use Rattle.instance.specs.declared.Configuration.{Configuration}
 use Rattle.instance.specs.declared.Instance.{Instance}
 use Rattle.instance.specs.Configurations.{assignment}
 use Rattle.instance.specs.Instances.{policyOf, takenOf, term, isClosed, notedFor}
-use Rattle.instance.proofs.Formed.{ConfigurationFormed, users-most}
+use Rattle.instance.proofs.Formed.{users-most, users-least}
 use Rattle.monitor.specs.declared.Monitor.{Monitor}
 use Rattle.monitor.specs.declared.Event.{Event}
 use Rattle.monitor.specs.declared.Event.the-variants.{Acts, Malformed}
@@ -34,9 +33,9 @@ use Rattle.monitor.specs.declared.Enabled.the-variants.{Users, Refused}
 use Rattle.monitor.specs.Monitors.{admission}
 use Rattle.monitor.specs.Events.{readEvent, eventIn, isMalformed, tried, ownRefusals, applied, eventRefusals, eventCode, entry, workspaceAfter, Outcome, outcome}
 use Rattle.monitor.specs.Enabled.{actionWord, mayAct, enabledMask, enabledOf, ActionNumberPlaysNoPart, BitIsAction, NoOtherBit, ClosedOrFullIsNobody, RefusalKeepsMask}
-use Rattle.monitor.specs.Private.{eachTried}
+use Rattle.monitor.specs.Private.{eachTried, monitorOutcome}
 use Rattle.monitor.proofs.Formed.{formed}
-use Rattle.monitor.proofs.Order.{admits, goes-on, accepted-has-passed, not-admitted, not-entered}
+use Rattle.monitor.proofs.Order.{admits, accepted-has-passed, not-admitted, not-entered, performed}
 use Rattle.monitor.proofs.Effects.{refusal-alters-nothing}
 
 -- ── the word of an action ──
@@ -84,11 +83,6 @@ action-number-plays-no-part m u a before h k = alike m u a h k given refl
     }
 
 -- ── the trials ──
-pub some-user : (c : Configuration) → ConfigurationFormed c → 1 ≤ c .users
-some-user c f =
-    let counts = and-split (countOk (c .users)) (countOk (c .roles)) (f .counts) in
-    leb-true 1 (c .users) (and-split (leb 1 (c .users)) (leb (c .users) 16) (counts .0) .0)
-
 -- what is noted for a user, as the trials are given it
 module _ (c : Configuration) (i : Instance) (few : c .users ≤ 16) (within : c .users ≤ length (c .«user_roles»)) (each : List ℕ) (long : c .users ≤ length each)
     (is : each ≡ metEach (policyOf i) (assignment c)) where
@@ -198,19 +192,20 @@ module _ (m : Monitor) (before : List ℕ) (ok : code (admission m (length befor
     few = users-most c (formed m (admits m (length before) ok .1) .in-configuration)
 
     some : 1 ≤ c .users
-    some = some-user c (formed m (admits m (length before) ok .1) .in-configuration)
+    some = users-least c (formed m (admits m (length before) ok .1) .in-configuration)
+
+    acted : (u : ℕ) → u < c .users → monitorOutcome m (Acts u 0) before ≡ outcome m (actionWord u 0) before
+    acted u h =
+        let is : eventIn m (actionWord u 0) ≡ Acts u 0 = read-action u 0 (omega (arith, few)) (omega arith) (c .users) (c .roles) ∙ rw (lt-ltb u (c .users) h) in
+        let enters : code (entry i (eventIn m (actionWord u 0))) ≡ 0 = ap (λ e. code (entry i e)) is ∙ rw is-open in
+        subst (λ e. monitorOutcome m e before ≡ outcome m (actionWord u 0) before) is (performed m (actionWord u 0) before ok enters)
 
     own : (u : ℕ) → u < c .users → eventCode m (actionWord u 0) (length before) ≡ code (ownRefusals c i (Acts u 0))
-    own u h =
-        let a = admits m (length before) ok in
-        let z : eventIn m (actionWord u 0) ≡ Acts u 0 = read-action u 0 (omega (arith, few)) (omega arith) (c .users) (c .roles) ∙ rw (lt-ltb u (c .users) h) in
-        ap (λ e. code (eventRefusals m e (length before))) z ∙ goes-on m (Acts u 0) (length before) (a .0) (a .1) is-open refl
+    unfolding outcome
+    own u h = ap (λ (o : Outcome). o .code) (sym (acted u h))
 
     left : (u : ℕ) → u < c .users → outcome m (actionWord u 0) before .workspace ≡ workspaceAfter c i (Acts u 0) (code (ownRefusals c i (Acts u 0))) before
-    unfolding outcome
-    left u h =
-        let z : eventIn m (actionWord u 0) ≡ Acts u 0 = read-action u 0 (omega (arith, few)) (omega arith) (c .users) (c .roles) ∙ rw (lt-ltb u (c .users) h) in
-        ap₂ (λ e k. workspaceAfter c i e k before) z (own u h)
+    left u h = ap (λ (o : Outcome). o .workspace) (sym (acted u h))
 
     judged : (u : ℕ) → (b : Bool) → leb 12 (i .taken) ≡ false → possible (term i) 0 (tried c i u) ≡ b → eqb (code (ownRefusals c i (Acts u 0))) 0 ≡ b
     judged u true f e = rw (f, e)

@@ -5,9 +5,9 @@ use native.Mathlib.Omega.{arith}
 use borrow.Author.Needs.{needs}
 use lib.ListN.{length}
 use lib.Seq.{length-take-le}
-use Rattle.instance.proofs.Formed.{ConfigurationFormed, configuration-formed, InstanceFormed, instance-formed, users-most, users-within}
+use Rattle.instance.proofs.Formed.{ConfigurationFormed, configuration-formed, InstanceFormed, instance-formed, users-most, users-within, users-least}
 use Rattle.monitor.proofs.Fillable.{fillable-formed}
-use Rattle.monitor.proofs.Enabling.{some-user, trials-are}
+use Rattle.monitor.proofs.Enabling.{trials-are}
 use Rattle.monitor.proofs.trials.try_all.Statement.{statement}
 use Rattle.monitor.proofs.trials.try_all.Tie as tie
 
@@ -61,7 +61,7 @@ returns c =
     let before = s .args .workspace .now in
     let fills = fillable-formed (s .args .configuration) i before (in-configuration s) (in-instance s) (s .pre .long) .fills in
     trials-are (s .args .configuration) i (few s) (within s) (m .met-each .result) (users-laid m) (m .met-each .ensures) before fills
-    (some-user (s .args .configuration) (in-configuration s)) _ (t .try-users .ensures)
+    (users-least (s .args .configuration) (in-configuration s)) _ (t .try-users .ensures)
 
 pub try-all-spec : {M : Type 1} → statement M
 try-all-spec =
