@@ -21,7 +21,7 @@
 
 /* The version of this header. oskhrein_version gives that of the library: it is to be OSKHREIN_VERSION. */
 #define OSKHREIN_VERSION_MAJOR 0
-#define OSKHREIN_VERSION_MINOR 2
+#define OSKHREIN_VERSION_MINOR 3
 #define OSKHREIN_VERSION_PATCH 0
 #define OSKHREIN_VERSION (OSKHREIN_VERSION_MAJOR * 65536u + OSKHREIN_VERSION_MINOR * 256u + OSKHREIN_VERSION_PATCH)
 
@@ -37,7 +37,7 @@ extern "C" {
 enum {
     OSKHREIN_ACCEPTED = 0,
 
-    /* Policy author. */
+    /* Policy author. A call that answers one of these gives the fault's place too: see oskhrein_open. */
     OSKHREIN_WORD_COUNT = 1, /* no word, or more than 31 */
     OSKHREIN_WORD = 2,       /* some word is not in the layout, names a role or user not declared, or is an empty set */
     OSKHREIN_TERM = 3,       /* the words are not exactly one term */
@@ -179,11 +179,18 @@ _Static_assert(_Alignof(struct oskhrein_monitor) == 4, "a monitor stands at a mu
  * Answers OSKHREIN_ACCEPTED, or the first that applies of OSKHREIN_COUNTS, OSKHREIN_WORD_COUNT, OSKHREIN_WORD, OSKHREIN_TERM,
  * OSKHREIN_UNIT, OSKHREIN_ROWS.
  *
+ * Leaves in *place the place of a policy's fault, counted in words from 0:
+ *   OSKHREIN_WORD_COUNT  0
+ *   OSKHREIN_WORD        the first such word
+ *   OSKHREIN_TERM        the first word left over after a whole term, or n_words where the words run out
+ *   OSKHREIN_UNIT        the first such not or plus
+ * Any other answer leaves *place as it was.
+ *
  * Leaves in *monitor what was opened: the policy, the counts and the rows, zeros behind them, no action, and not closed. A refusal
  * leaves the blank monitor there, all zero. words and rows are only read.
  */
 uint8_t oskhrein_open(struct oskhrein_monitor *monitor, uint8_t users, uint8_t roles, const uint32_t *words, size_t n_words,
-                      const uint16_t *rows, size_t n_rows);
+                      const uint16_t *rows, size_t n_rows, uint8_t *place);
 
 /*
  * One event on a monitor. The kind is in bits 24 to 31 of its word, bits 16 to 23 are zero, the user is in bits 8 to 15:
@@ -242,11 +249,13 @@ uint8_t oskhrein_enabled(const struct oskhrein_monitor *monitor, uint32_t *works
  * Answers OSKHREIN_YES or OSKHREIN_NO, or the first that applies of OSKHREIN_WORKSPACE, the refusals of oskhrein_open in its order,
  * OSKHREIN_MALFORMED (a count above 0 for a user not declared), OSKHREIN_FULL (more than twelve in all).
  *
+ * Leaves in *place the place of a policy's fault, as oskhrein_open does. Any other answer leaves it as it was.
+ *
  * Leaves the workspace filled for the multiset's actions, in some order of them; a refusal leaves it as it was. words, rows and counts
  * are only read.
  */
 uint8_t oskhrein_satisfies(uint8_t users, uint8_t roles, const uint32_t *words, size_t n_words, const uint16_t *rows, size_t n_rows,
-                           const uint8_t counts[OSKHREIN_MAX_USERS], uint32_t *workspace, size_t n_workspace);
+                           const uint8_t counts[OSKHREIN_MAX_USERS], uint32_t *workspace, size_t n_workspace, uint8_t *place);
 
 /*
  * Writes the normal form of a policy: policies that differ only in the order or the grouping of operands have the same one.
@@ -254,10 +263,13 @@ uint8_t oskhrein_satisfies(uint8_t users, uint8_t roles, const uint32_t *words, 
  * Answers OSKHREIN_ACCEPTED, or the first that applies of OSKHREIN_COUNTS, OSKHREIN_WORD_COUNT, OSKHREIN_WORD, OSKHREIN_TERM,
  * OSKHREIN_UNIT, OSKHREIN_OUTPUT (n_out below n_words).
  *
+ * Leaves in *place the place of a policy's fault, as oskhrein_open does. Any other answer leaves it as it was.
+ *
  * Leaves the normal form in the first n_words words of out; the rest of out, and after a refusal all of it, is as it was. words is
  * only read.
  */
-uint8_t oskhrein_normal_form(uint8_t users, uint8_t roles, const uint32_t *words, size_t n_words, uint32_t *out, size_t n_out);
+uint8_t oskhrein_normal_form(uint8_t users, uint8_t roles, const uint32_t *words, size_t n_words, uint32_t *out, size_t n_out,
+                             uint8_t *place);
 
 /* The version of the library, as OSKHREIN_VERSION writes it. */
 uint32_t oskhrein_version(void);

@@ -4,12 +4,16 @@
 use oskhrein::Refusal;
 use reference::monitor::Kept;
 use reference::multiset;
+use reference::place::place_of;
 use reference::raw::{RawAction, RawInstance};
 use reference::search::Search;
 
 use crate::cases::{action, Case, Job};
 use crate::library::{Library, Stored};
 use crate::tuned::{self, Action, Configuration, Fill, Instance, Monitor};
+
+/// The place where there is none: no policy has so many words.
+pub const NO_PLACE: u8 = u8::MAX;
 
 /// A program with the input of one case.
 pub trait Candidate {
@@ -23,7 +27,15 @@ pub trait Candidate {
     fn words(&self) -> Option<&[u32]>;
 
     /// The users that the last run named, bit u for user u, if it was asked who may act.
-    fn users(&self) -> u16;
+    fn users(&self) -> u16 {
+        0
+    }
+
+    /// The place of a policy's fault that the last run told, or [`NO_PLACE`], if the program tells
+    /// places.
+    fn place(&self) -> Option<u8> {
+        Some(NO_PLACE)
+    }
 }
 
 /// A workspace. All begin at a page, since where they begin is not what is compared.
@@ -50,6 +62,18 @@ fn byte<T>(answer: Result<T, Refusal>, accepted: impl FnOnce(T) -> u8) -> u8 {
     answer.map_or_else(Refusal::number, accepted)
 }
 
+/// The same of a call that reads a policy, and the place of the policy's fault.
+fn policy_byte<T>(
+    answer: Result<T, Refusal>,
+    place: &mut u8,
+    accepted: impl FnOnce(T) -> u8,
+) -> u8 {
+    if let Some(fault) = answer.as_ref().err().and_then(|refusal| refusal.place()) {
+        *place = fault as u8;
+    }
+    byte(answer, accepted)
+}
+
 /// The byte of a verdict.
 fn verdict(yes: bool) -> u8 {
     if yes {
@@ -63,7 +87,10 @@ fn verdict(yes: bool) -> u8 {
 /// since a short policy would not take so many.
 fn start(case: &Case) -> RawInstance {
     let (users, roles) = (case.users().into(), case.roles().into());
-    let (_, mut raw) = RawInstance::open(users, roles, &case.policy.words, &case.policy.rows);
+    let (code, mut raw) = RawInstance::open(users, roles, &case.policy.words, &case.policy.rows);
+    if code != 0 {
+        return raw;
+    }
     let opened = raw.monitor().expect("the case opens");
     for (place, user) in case.taken.iter().map(|user| usize::from(*user)).enumerate() {
         let held = reference::policy::ones(case.policy.rows[user]);
@@ -96,19 +123,21 @@ pub struct Proved<'a> {
     now: Stored,
     workspace: Box<Workspace>,
     users: u16,
+    place: u8,
 }
 
 impl<'a> Proved<'a> {
     /// With the input of a case.
     pub fn new(case: &'a Case, library: &'a Library) -> Proved<'a> {
         let start = library.stored(&from_raw(&start(case)));
-        Proved { case, library, start, now: start, workspace: Workspace::new(), users: 0 }
+        let (users, place) = (0, NO_PLACE);
+        Proved { case, library, start, now: start, workspace: Workspace::new(), users, place }
     }
 }
 
 impl Candidate for Proved<'_> {
     fn run(&mut self) -> u8 {
-        let Proved { case, library, start, now, workspace, users: named } = self;
+        let Proved { case, library, start, now, workspace, users: named, place } = self;
         let (users, roles) = (case.users(), case.roles());
         let (policy, rows) = (&case.policy.words[..], &case.policy.rows[..]);
         let workspace = &mut workspace.0[..];
@@ -120,9 +149,11 @@ impl Candidate for Proved<'_> {
             }
             Job::Status => library.status(now, workspace),
             Job::Enabled => library.enabled(now, workspace, named),
-            Job::Multiset(counts) => calls.satisfies(users, roles, policy, rows, counts, workspace),
-            Job::NormalForm => calls.normal_form(users, roles, policy, workspace),
-            Job::Open => library.open(now, users, roles, policy, rows),
+            Job::Multiset(counts) => {
+                calls.satisfies(users, roles, policy, rows, counts, workspace, place)
+            }
+            Job::NormalForm => calls.normal_form(users, roles, policy, workspace, place),
+            Job::Open => library.open(now, users, roles, policy, rows, place),
         }
     }
 
@@ -136,6 +167,10 @@ impl Candidate for Proved<'_> {
 
     fn users(&self) -> u16 {
         self.users
+    }
+
+    fn place(&self) -> Option<u8> {
+        self.library.tells_places().then_some(self.place)
     }
 }
 
@@ -189,13 +224,14 @@ pub struct Searched<'a> {
     workspace: Box<Workspace>,
     fills: bool,
     users: u16,
+    place: u8,
 }
 
 impl<'a> Searched<'a> {
     /// With the input of a case.
     pub fn new(case: &'a Case, fills: bool) -> Searched<'a> {
-        let start = start(case);
-        Searched { case, start, now: start, workspace: Workspace::new(), fills, users: 0 }
+        let (start, workspace) = (start(case), Workspace::new());
+        Searched { case, start, now: start, workspace, fills, users: 0, place: NO_PLACE }
     }
 
     /// The multiset test without a workspace.
@@ -237,6 +273,8 @@ impl Candidate for Searched<'_> {
             (Job::Open, _) => {
                 let (code, opened) = RawInstance::open(users, roles, policy, rows);
                 self.now = opened;
+                let place = place_of(code, users, roles, policy);
+                self.place = place.map_or(NO_PLACE, |place| place as u8);
                 number(code)
             }
         }
@@ -253,6 +291,10 @@ impl Candidate for Searched<'_> {
 
     fn users(&self) -> u16 {
         self.users
+    }
+
+    fn place(&self) -> Option<u8> {
+        Some(self.place)
     }
 }
 
@@ -277,19 +319,20 @@ pub struct Tuned<'a> {
     workspace: Box<Workspace>,
     fill: Fill,
     users: u16,
+    place: u8,
 }
 
 impl<'a> Tuned<'a> {
     /// With the input of a case.
     pub fn new(case: &'a Case, fill: Fill) -> Tuned<'a> {
-        let start = from_raw(&start(case));
-        Tuned { case, start, now: start, workspace: Workspace::new(), fill, users: 0 }
+        let (start, workspace) = (from_raw(&start(case)), Workspace::new());
+        Tuned { case, start, now: start, workspace, fill, users: 0, place: NO_PLACE }
     }
 }
 
 impl Candidate for Tuned<'_> {
     fn run(&mut self) -> u8 {
-        let Tuned { case, start, now, workspace, fill, users: named } = self;
+        let Tuned { case, start, now, workspace, fill, users: named, place } = self;
         let (users, roles) = (case.users(), case.roles());
         let (policy, rows) = (&case.policy.words[..], &case.policy.rows[..]);
         let workspace = &mut workspace.0[..];
@@ -306,12 +349,13 @@ impl Candidate for Tuned<'_> {
             Job::Multiset(counts) => {
                 let declared = (users, roles);
                 let answer = tuned::satisfies(declared, policy, rows, counts, workspace, *fill);
-                byte(answer, verdict)
+                policy_byte(answer, place, verdict)
             }
             Job::NormalForm => {
-                byte(tuned::normal::normal_form(users, roles, policy, workspace), |()| 0)
+                let answer = tuned::normal::normal_form(users, roles, policy, workspace);
+                policy_byte(answer, place, |()| 0)
             }
-            Job::Open => byte(now.open(users, roles, policy, rows), |()| 0),
+            Job::Open => policy_byte(now.open(users, roles, policy, rows), place, |()| 0),
         }
     }
 
@@ -325,6 +369,10 @@ impl Candidate for Tuned<'_> {
 
     fn users(&self) -> u16 {
         self.users
+    }
+
+    fn place(&self) -> Option<u8> {
+        Some(self.place)
     }
 }
 
@@ -438,8 +486,10 @@ mod tests {
             let rows: Vec<u16> = (0..users).map(|_| random.word() as u16 & 7).collect();
             let (code, raw) = RawInstance::open(users, roles, &words, &rows);
             let mut monitor = Monitor::default();
-            let got = byte(monitor.open(given.0, given.1, &words, &rows), |()| 0);
-            assert_eq!((got, monitor), (code as u8, from_raw(&raw)), "{words:x?}");
+            let opened = monitor.open(given.0, given.1, &words, &rows);
+            assert_eq!((byte(opened, |()| 0), monitor), (code as u8, from_raw(&raw)), "{words:x?}");
+            let place = place_of(code, users, roles, &words);
+            assert_eq!(opened.err().and_then(Refusal::place), place, "{words:x?}");
         }
     }
 }

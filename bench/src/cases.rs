@@ -308,9 +308,40 @@ pub fn enabled() -> Vec<Case> {
     cases
 }
 
+/// The opening whose policy the refused ones are made from.
+pub fn accepted() -> Case {
+    Case::new("opening", made(APART, 31), 0, 0)
+}
+
+/// The rows of the table of refused policies: each number with its fault as early as can be, and far
+/// behind.
+pub fn refused() -> Vec<Case> {
+    let with = |place: usize, word: u32| {
+        let mut words = made(APART, 31).words;
+        words[place] = word;
+        words
+    };
+    let shorter = made(APART, 28).words;
+    let (last, before) = shorter.split_last().expect("it has words");
+    let policies = [
+        ("1 at 0", [made(APART, 31).words, vec![EVERYONE]].concat()),
+        ("2 at 0", with(0, ROLE | u32::from(ROLES))),
+        ("2 at 30", with(30, ROLE | u32::from(ROLES))),
+        ("3 at 1", with(0, ROLE)),
+        ("3 at 31", with(30, NOT)),
+        ("4 at 0", [&[NOT; 3], &shorter[..]].concat()),
+        ("4 at 27", [before, &[PLUS; 3], &[*last]].concat()),
+    ];
+    let case = |(fault, words)| {
+        let policy = Policy { words, ..made(APART, 31) };
+        Case { what: format!("refused: {fault}"), policy, ..accepted() }
+    };
+    policies.map(case).into()
+}
+
 /// The rows of all tables.
 pub fn all() -> Vec<Case> {
-    [calls(), enabled()].concat()
+    [calls(), enabled(), refused()].concat()
 }
 
 /// The rows of the table of calls; in each family the cases with more actions come later.

@@ -120,10 +120,14 @@ fn load(path: &str) -> Result<(Calls, bool), String> {
     };
     let find = |name: &'static str| own(name).or_else(|| stand_in(name));
     // SAFETY: it is an earlier build of the linked library; what stands in for what it lacks has the
-    // same type.
+    // same type. A build from before places has calls without the last parameter, which the caller
+    // passes and takes back, so that they need not know of it.
     let calls = unsafe { Calls::loaded(find) }.map_err(|name| format!("{path} has no {name}"))?;
     Ok((calls, own(ENABLED).is_some()))
 }
+
+/// The first version that tells the place of a policy's fault.
+const WITH_PLACES: u32 = 0x000300;
 
 /// A build of the library.
 #[derive(Clone, Copy)]
@@ -153,7 +157,7 @@ impl Library {
         for layout in LAYOUTS {
             let library = Library { calls, layout, tells_enabled };
             let mut stored = Stored([0; 260]);
-            library.open(&mut stored, 3, 4, &policy, &rows);
+            library.open(&mut stored, 3, 4, &policy, &rows, &mut 0);
             if library.monitor(&stored) == expected {
                 return Ok(library);
             }
@@ -179,8 +183,9 @@ impl Library {
         roles: u8,
         words: &[u32],
         rows: &[u16],
+        place: &mut u8,
     ) -> u8 {
-        self.calls.open(raw_mut(stored), users, roles, words, rows)
+        self.calls.open(raw_mut(stored), users, roles, words, rows, place)
     }
 
     /// One event.
@@ -201,6 +206,11 @@ impl Library {
     /// Whether it tells who may act.
     pub fn tells_enabled(&self) -> bool {
         self.tells_enabled
+    }
+
+    /// Whether it tells the place of a policy's fault.
+    pub fn tells_places(&self) -> bool {
+        self.calls.version() >= WITH_PLACES
     }
 
     /// The calls that are lent no monitor.

@@ -5,20 +5,24 @@
 //! - (c) the library's table tuned by hand;
 //! - (d) one table a term.
 //!
-//! Who may act has a table of its own, where one event and a trial for each user stand beside it.
+//! Who may act has a table of its own, where one event and a trial for each user stand beside it, and
+//! so have refused policies.
 //!
-//! Before a case is timed, all of them must agree on the answer and the monitor, and those that
-//! fill the workspace on every word of it. Times are for reading; nothing passes or fails by them.
+//! Before a case is timed, all of them must agree on the answer, the monitor and the place of a
+//! policy's fault, and those that fill the workspace on every word of it. Times are for reading;
+//! nothing passes or fails by them.
 //!
-//! `bench enabled` prints the table of who may act alone, `bench rows` lists the rows of all tables,
-//! `bench time ROW..` times some of them without (b) and (d), and `bench repeat ROW CANDIDATE RUNS`
-//! does one of them so often, for a program that counts instructions.
+//! `bench enabled` prints the table of who may act alone, `bench refused` that of refused policies,
+//! `bench rows` lists the rows of all tables, `bench time ROW..` times some of them without (b) and
+//! (d), and `bench repeat ROW CANDIDATE RUNS` does one of them so often, for a program that counts
+//! instructions.
 
 mod candidates;
 mod cases;
 mod enabled;
 mod growth;
 mod library;
+mod refused;
 mod report;
 mod timing;
 mod tuned;
@@ -33,6 +37,7 @@ use report::Row;
 /// What the program can do.
 const USAGE: &str = "usage: bench
        bench enabled
+       bench refused
        bench rows
        bench time ROW..
        bench repeat ROW CANDIDATE RUNS";
@@ -90,13 +95,15 @@ fn agree(case: &Case, all: &mut [Box<dyn Candidate + '_>]) {
     let name = case.name().join(", ");
     assert!(answers.iter().all(|answer| *answer == answers[0]), "{name}: answers {answers:?}");
     let (monitor, users) = (all[0].monitor(), all[0].users());
+    let places: Vec<u8> = all.iter().filter_map(|candidate| candidate.place()).collect();
     let words: Vec<&[u32]> = all.iter().filter_map(|candidate| candidate.words()).collect();
     assert!(all.iter().all(|candidate| candidate.monitor() == monitor), "{name}: monitors");
     assert!(words.iter().all(|own| *own == words[0]), "{name}: workspaces");
     assert!(all.iter().all(|candidate| candidate.users() == users), "{name}: users");
+    assert!(places.iter().all(|place| *place == places[0]), "{name}: places {places:?}");
 }
 
-/// Prints both tables and how the cost grows.
+/// Prints all tables and how the cost grows.
 fn print(builds: &Builds) {
     report::head(builds.earlier.is_some());
     let mut rows = Vec::new();
@@ -112,12 +119,13 @@ fn print(builds: &Builds) {
     report::foot(&rows);
     growth::print(builds);
     enabled::print(builds);
+    refused::print(builds);
 }
 
-/// Prints the table of who may act alone.
-fn print_enabled(builds: &Builds) {
+/// Prints one table alone.
+fn print_alone(builds: &Builds, table: fn(&Builds)) {
     timing::warm_up(&mut builds.main_candidates(&cases::calls()[0]));
-    enabled::print(builds);
+    table(builds);
 }
 
 /// A number from the command line.
@@ -159,7 +167,8 @@ fn time(builds: &Builds, row: &str) -> Result<(), String> {
 fn run(arguments: &[&str]) -> Result<(), String> {
     match arguments {
         [] => print(&Builds::new()?),
-        ["enabled"] => print_enabled(&Builds::new()?),
+        ["enabled"] => print_alone(&Builds::new()?, enabled::print),
+        ["refused"] => print_alone(&Builds::new()?, refused::print),
         ["rows"] => {
             for (row, case) in cases::all().iter().enumerate() {
                 println!("{row} | {}", case.name().join(" | "));

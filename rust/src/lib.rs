@@ -27,6 +27,8 @@
 //! | 8 | together | 0 | 2 |
 //! | 9 | apart | 0 | 2 |
 //!
+//! The fault of a refused policy has a place among its words, which the [`Refusal`] tells.
+//!
 //! # Example
 //!
 //! Document 01's listing L, whose policy is Example 3 of document 004: an accountant (role 0), and
@@ -124,8 +126,10 @@ pub fn satisfies(
     counts: &[u8; MAX_USERS],
     workspace: &mut Workspace,
 ) -> Result<bool, Refusal> {
-    let words = workspace.words_mut();
-    refusal::verdict(Calls::LINKED.satisfies(users, roles, policy, user_roles, counts, words))
+    let (words, mut place) = (workspace.words_mut(), 0);
+    let calls = Calls::LINKED;
+    let answer = calls.satisfies(users, roles, policy, user_roles, counts, words, &mut place);
+    refusal::verdict(answer, place)
 }
 
 /// Writes the normal form of a policy at the start of an output, and gives it back. It has as many
@@ -156,6 +160,7 @@ pub fn normal_form<'a>(
     policy: &[u32],
     out: &'a mut [u32],
 ) -> Result<&'a [u32], Refusal> {
-    refusal::accepted(Calls::LINKED.normal_form(users, roles, policy, out))?;
-    Ok(&out[..policy.len()])
+    let mut place = 0;
+    let answer = Calls::LINKED.normal_form(users, roles, policy, out, &mut place);
+    refusal::policy_accepted(answer, place).map(|()| &out[..policy.len()])
 }

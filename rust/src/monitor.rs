@@ -35,9 +35,9 @@ impl Monitor {
         user_roles: &[u16],
     ) -> Result<Monitor, Refusal> {
         assert_layout();
-        let mut raw = raw::Monitor::BLANK;
-        refusal::accepted(Calls::LINKED.open(&mut raw, users, roles, policy, user_roles))?;
-        Ok(Monitor { raw })
+        let (mut raw, mut place) = (raw::Monitor::BLANK, 0);
+        let answer = Calls::LINKED.open(&mut raw, users, roles, policy, user_roles, &mut place);
+        refusal::policy_accepted(answer, place).map(|()| Monitor { raw })
     }
 
     /// One event. If it is accepted, it alters its own part alone: an action adds itself, a grant

@@ -10,6 +10,10 @@
 //! 3. A monitor is initialised. The type sees to that; any bytes will do.
 //!
 //! A call neither keeps a pointer nor unwinds.
+//!
+//! A call that reads a policy is lent a byte for the place of the policy's fault. It writes there
+//! with 1 to 4; any other answer leaves the byte as it was.
+//! [`Refusal::of_number`](crate::Refusal::of_number) takes both.
 
 mod layout;
 
@@ -73,6 +77,7 @@ exported! {
         n_words: usize,
         rows: *const u16,
         n_rows: usize,
+        place: *mut u8,
     ) -> u8;
     event: oskhrein_event(
         monitor: *mut Monitor,
@@ -101,6 +106,7 @@ exported! {
         counts: *const [u8; MAX_USERS],
         workspace: *mut u32,
         n_workspace: usize,
+        place: *mut u8,
     ) -> u8;
     normal_form: oskhrein_normal_form(
         users: u8,
@@ -109,6 +115,7 @@ exported! {
         n_words: usize,
         out: *mut u32,
         n_out: usize,
+        place: *mut u8,
     ) -> u8;
     version: oskhrein_version() -> u32;
     layout: oskhrein_layout() -> u32;
@@ -123,11 +130,12 @@ impl Calls {
         roles: u8,
         words: &[u32],
         rows: &[u16],
+        place: &mut u8,
     ) -> u8 {
         let (words, n_words) = (words.as_ptr(), words.len());
         let (rows, n_rows) = (rows.as_ptr(), rows.len());
         // SAFETY: 1 to 3 by the parameters' types.
-        unsafe { (self.open)(monitor, users, roles, words, n_words, rows, n_rows) }
+        unsafe { (self.open)(monitor, users, roles, words, n_words, rows, n_rows, place) }
     }
 
     /// One event.
@@ -152,6 +160,7 @@ impl Calls {
     }
 
     /// The multiset test.
+    #[allow(clippy::too_many_arguments)] // those of the exported function
     pub fn satisfies(
         &self,
         users: u8,
@@ -160,22 +169,32 @@ impl Calls {
         rows: &[u16],
         counts: &[u8; MAX_USERS],
         workspace: &mut [u32],
+        place: &mut u8,
     ) -> u8 {
         let (words, n_words) = (words.as_ptr(), words.len());
         let (rows, n_rows) = (rows.as_ptr(), rows.len());
         let (space, n_space) = (workspace.as_mut_ptr(), workspace.len());
         // SAFETY: 1 and 2 by the parameters' types; 3 asks nothing, since no monitor is lent.
         unsafe {
-            (self.satisfies)(users, roles, words, n_words, rows, n_rows, counts, space, n_space)
+            (self.satisfies)(
+                users, roles, words, n_words, rows, n_rows, counts, space, n_space, place,
+            )
         }
     }
 
     /// The normal form.
-    pub fn normal_form(&self, users: u8, roles: u8, words: &[u32], out: &mut [u32]) -> u8 {
+    pub fn normal_form(
+        &self,
+        users: u8,
+        roles: u8,
+        words: &[u32],
+        out: &mut [u32],
+        place: &mut u8,
+    ) -> u8 {
         let (words, n_words) = (words.as_ptr(), words.len());
         let (out, n_out) = (out.as_mut_ptr(), out.len());
         // SAFETY: 1 and 2 by the parameters' types; 3 asks nothing, since no monitor is lent.
-        unsafe { (self.normal_form)(users, roles, words, n_words, out, n_out) }
+        unsafe { (self.normal_form)(users, roles, words, n_words, out, n_out, place) }
     }
 
     /// The version of the library: major, minor and patch number, a byte each, the patch lowest.

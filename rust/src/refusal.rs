@@ -8,54 +8,83 @@ use crate::status::Status;
 /// Why a call was refused; document 01 numbers the reasons from 1 to 15. Later versions may have
 /// more.
 ///
+/// The first four are faults of a policy, and have a [`place`](Self::place) among its words, counted
+/// from 0.
+///
 /// A refused call leaves everything as it was. Only after
 /// [`NotPossible`](Self::NotPossible) and [`NotSatisfied`](Self::NotSatisfied) does the workspace
 /// speak of the actions that were judged.
+///
+/// # Example
+///
+/// With two roles there is no role 2:
+///
+/// ```
+/// use oskhrein::{Monitor, Refusal, Term};
+///
+/// let policy = Term::apart(Term::role(0)?, Term::role(2)?)?;
+/// let refusal = Monitor::open(2, 2, policy.words(), &[1, 2]).expect_err("it is refused");
+/// assert_eq!(refusal, Refusal::Word { place: 2 });
+/// assert_eq!((refusal.number(), refusal.place()), (2, Some(2)));
+/// assert!(refusal.to_string().starts_with("2 at word 2: this word is not in the layout, names a"));
+/// assert_eq!(Refusal::Closed.to_string(), "10: the monitor is closed");
+/// # Ok::<(), Refusal>(())
+/// ```
 #[derive(Clone, Copy, Debug, PartialEq, Eq, PartialOrd, Ord, Hash)]
-#[repr(u8)]
 #[non_exhaustive]
 pub enum Refusal {
-    /// The policy has no word, or more than 31.
-    WordCount = 1,
-    /// Some policy word is not in the layout, names a role or user that is not declared, or is an
+    /// 1: The policy has no word, or more than 31. Its place is 0.
+    WordCount,
+    /// 2: A policy word is not in the layout, names a role or user that is not declared, or is an
     /// empty set.
-    Word = 2,
-    /// The policy words are not exactly one term.
-    Term = 3,
-    /// A not or a plus stands over a term that is no unit term.
-    Unit = 4,
-    /// The users or the roles are not 1 to 16.
-    Counts = 5,
-    /// The rows of roles are not one a user, or name a role that is not declared.
-    Rows = 6,
-    /// An event word is out of layout or names a user or role that is not declared; a multiset
+    Word {
+        /// The first such word.
+        place: usize,
+    },
+    /// 3: The policy words are not exactly one term.
+    Term {
+        /// The first word left over behind the first whole term; where the words run out, the word
+        /// count.
+        place: usize,
+    },
+    /// 4: A not or a plus stands over a term that is no unit term.
+    Unit {
+        /// The first such not or plus.
+        place: usize,
+    },
+    /// 5: The users or the roles are not 1 to 16.
+    Counts,
+    /// 6: The rows of roles are not one a user, or name a role that is not declared.
+    Rows,
+    /// 7: An event word is out of layout or names a user or role that is not declared; a multiset
     /// counts a user that is not declared.
-    Malformed = 7,
-    /// Twelve actions are taken already; a multiset has more than twelve.
-    Full = 8,
-    /// The actions with this one are not possible.
-    NotPossible = 9,
-    /// The monitor is closed.
-    Closed = 10,
-    /// A close, but the taken actions do not satisfy the policy.
-    NotSatisfied = 11,
-    /// The workspace is shorter than 8,192 words. A [`Workspace`](crate::Workspace) never is.
-    Workspace = 12,
-    /// The output is shorter than the policy.
-    Output = 13,
-    /// A case file is malformed. No call of this crate reads one.
-    Case = 14,
-    /// The monitor is malformed. Only one that was made from bytes can be.
-    Monitor = 15,
+    Malformed,
+    /// 8: Twelve actions are taken already; a multiset has more than twelve.
+    Full,
+    /// 9: The actions with this one are not possible.
+    NotPossible,
+    /// 10: The monitor is closed.
+    Closed,
+    /// 11: A close, but the taken actions do not satisfy the policy.
+    NotSatisfied,
+    /// 12: The workspace is shorter than 8,192 words. A [`Workspace`](crate::Workspace) never is.
+    Workspace,
+    /// 13: The output is shorter than the policy.
+    Output,
+    /// 14: A case file is malformed. No call of this crate reads one.
+    Case,
+    /// 15: The monitor is malformed. Only one that was made from bytes can be. Its policy may be at
+    /// fault, but no place is given.
+    Monitor,
 }
 
 impl Refusal {
-    /// All of them, in the order of their numbers.
+    /// One for each number, in their order; those with a place are at word 0.
     pub const ALL: &'static [Refusal] = &[
         Refusal::WordCount,
-        Refusal::Word,
-        Refusal::Term,
-        Refusal::Unit,
+        Refusal::Word { place: 0 },
+        Refusal::Term { place: 0 },
+        Refusal::Unit { place: 0 },
         Refusal::Counts,
         Refusal::Rows,
         Refusal::Malformed,
@@ -71,25 +100,71 @@ impl Refusal {
 
     /// The number.
     pub const fn number(self) -> u8 {
-        self as u8
-    }
-
-    /// The refusal with this number, if there is one.
-    pub fn of_number(number: u8) -> Option<Refusal> {
-        let place = usize::from(number).checked_sub(1)?;
-        Refusal::ALL.get(place).copied()
-    }
-
-    /// What document 01 says of the number.
-    const fn text(self) -> &'static str {
         match self {
-            Refusal::WordCount => "no word, or more than 31",
-            Refusal::Word => {
-                "some word is not in the layout, names a role or user not declared, \
+            Refusal::WordCount => 1,
+            Refusal::Word { .. } => 2,
+            Refusal::Term { .. } => 3,
+            Refusal::Unit { .. } => 4,
+            Refusal::Counts => 5,
+            Refusal::Rows => 6,
+            Refusal::Malformed => 7,
+            Refusal::Full => 8,
+            Refusal::NotPossible => 9,
+            Refusal::Closed => 10,
+            Refusal::NotSatisfied => 11,
+            Refusal::Workspace => 12,
+            Refusal::Output => 13,
+            Refusal::Case => 14,
+            Refusal::Monitor => 15,
+        }
+    }
+
+    /// The place of a policy's fault among the policy's words, counted from 0. It is below the word
+    /// count, or the word count itself where there is no word to point at: the policy is empty, or
+    /// its words run out. A refusal that is no policy's fault has none.
+    pub const fn place(self) -> Option<usize> {
+        match self {
+            Refusal::WordCount => Some(0),
+            Refusal::Word { place } | Refusal::Term { place } | Refusal::Unit { place } => {
+                Some(place)
+            }
+            _ => None,
+        }
+    }
+
+    /// The refusal with this number, if there is one. The place is what a call of [`raw`](crate::raw)
+    /// left in the byte that it was lent; it plays no part where a number has none.
+    pub fn of_number(number: u8, place: u8) -> Option<Refusal> {
+        let own = Refusal::ALL.get(usize::from(number).checked_sub(1)?)?;
+        Some(own.at(place.into()))
+    }
+
+    /// The same refusal at this place, if it can be at another one than it is.
+    const fn at(self, place: usize) -> Refusal {
+        match self {
+            Refusal::Word { .. } => Refusal::Word { place },
+            Refusal::Term { .. } => Refusal::Term { place },
+            Refusal::Unit { .. } => Refusal::Unit { place },
+            other => other,
+        }
+    }
+
+    /// What is wrong, as document 01 says it, in this crate's names. Where there is a place, it speaks
+    /// of the word there.
+    pub const fn sentence(self) -> &'static str {
+        match self {
+            Refusal::WordCount => "the policy has no word, or more than 31",
+            Refusal::Word { .. } => {
+                "this word is not in the layout, names a role or user that is not declared, \
                  or is an empty set"
             }
-            Refusal::Term => "the words are not exactly one term",
-            Refusal::Unit => "not or plus over a term that is no unit term",
+            Refusal::Term { .. } => {
+                "the words are not exactly one term: this one is left over, or they run out here"
+            }
+            Refusal::Unit { .. } => {
+                "this not or plus stands over a term that is no unit term: \
+                 it has a plus, together or apart in it"
+            }
             Refusal::Counts => "users or roles not 1 to 16",
             Refusal::Rows => "role rows not one a user, or a role not declared",
             Refusal::Malformed => {
@@ -108,21 +183,28 @@ impl Refusal {
     }
 }
 
-/// What document 01 says of the number, in this crate's names.
+/// The number, the place if there is one, and the sentence.
 impl fmt::Display for Refusal {
     fn fmt(&self, f: &mut fmt::Formatter<'_>) -> fmt::Result {
-        f.write_str(self.text())
+        write!(f, "{}", self.number())?;
+        if let Some(place) = self.place() {
+            write!(f, " at word {place}")?;
+        }
+        write!(f, ": {}", self.sentence())
     }
 }
 
 impl Error for Refusal {}
 
-/// What a byte of the library says: `Ok` with what `accepted` finds in it, else its refusal.
+/// What a byte of the library says: `Ok` with what `accepted` finds in it, else its refusal. A call
+/// that reads no policy has no place, and none of the numbers that have one.
 ///
 /// # Panics
 /// If it is neither, which no call of the proved library answers. To go on would be to guess.
-fn answer<T>(byte: u8, accepted: Option<T>) -> Result<T, Refusal> {
-    match (accepted, Refusal::of_number(byte)) {
+fn answer<T>(byte: u8, place: Option<u8>, accepted: Option<T>) -> Result<T, Refusal> {
+    let refusal = Refusal::of_number(byte, place.unwrap_or(0));
+    let refusal = refusal.filter(|own| own.place().is_none() || place.is_some());
+    match (accepted, refusal) {
         (Some(answer), _) => Ok(answer),
         (None, Some(refusal)) => Err(refusal),
         (None, None) => panic!("the library answered {byte}, which no call of it answers"),
@@ -131,22 +213,27 @@ fn answer<T>(byte: u8, accepted: Option<T>) -> Result<T, Refusal> {
 
 /// A number: 0 is acceptance.
 pub(crate) fn accepted(byte: u8) -> Result<(), Refusal> {
-    answer(byte, (byte == 0).then_some(()))
+    answer(byte, None, (byte == 0).then_some(()))
+}
+
+/// A number of a call that reads a policy, and the place of its fault: 0 is acceptance.
+pub(crate) fn policy_accepted(byte: u8, place: u8) -> Result<(), Refusal> {
+    answer(byte, Some(place), (byte == 0).then_some(()))
 }
 
 /// A status letter or a number.
 pub(crate) fn status(byte: u8) -> Result<Status, Refusal> {
-    answer(byte, Status::of_letter(byte))
+    answer(byte, None, Status::of_letter(byte))
 }
 
-/// A `y`, an `n` or a number.
-pub(crate) fn verdict(byte: u8) -> Result<bool, Refusal> {
+/// A `y`, an `n`, or a number and the place of a policy's fault.
+pub(crate) fn verdict(byte: u8, place: u8) -> Result<bool, Refusal> {
     let said = match byte {
         b'y' => Some(true),
         b'n' => Some(false),
         _ => None,
     };
-    answer(byte, said)
+    answer(byte, Some(place), said)
 }
 
 #[cfg(test)]
@@ -156,33 +243,49 @@ mod tests {
 
     #[test]
     fn each_refusal_has_its_number() {
-        for (place, refusal) in Refusal::ALL.iter().enumerate() {
-            assert_eq!(usize::from(refusal.number()), place + 1);
-            assert_eq!(Refusal::of_number(refusal.number()), Some(*refusal));
+        for (before, refusal) in (0..).zip(Refusal::ALL) {
+            assert_eq!(refusal.number(), before + 1);
+            assert_eq!(Refusal::of_number(refusal.number(), 0), Some(*refusal));
         }
-        assert_eq!(Refusal::of_number(0), None);
-        assert_eq!(Refusal::of_number(16), None);
+        assert_eq!(Refusal::of_number(0, 0), None);
+        assert_eq!(Refusal::of_number(16, 0), None);
     }
 
     #[test]
-    fn the_texts_differ() {
-        let texts: std::collections::BTreeSet<String> =
-            Refusal::ALL.iter().map(|refusal| refusal.to_string()).collect();
-        assert_eq!(texts.len(), Refusal::ALL.len());
+    fn a_policys_faults_alone_have_a_place() {
+        let place = |number| Refusal::of_number(number, 31).and_then(Refusal::place);
+        assert_eq!((1..=4).map(place).collect::<Vec<_>>(), [Some(0), Some(31), Some(31), Some(31)]);
+        assert!((5..=15).map(place).all(|place| place.is_none()));
+    }
+
+    #[test]
+    fn refusals_print_number_place_and_sentence() {
+        for refusal in Refusal::ALL {
+            let (number, sentence) = (refusal.number(), refusal.sentence());
+            let at = if number <= 4 { " at word 0" } else { "" };
+            assert_eq!(refusal.to_string(), format!("{number}{at}: {sentence}"));
+        }
+        let sentences: std::collections::BTreeSet<&str> =
+            Refusal::ALL.iter().map(|refusal| refusal.sentence()).collect();
+        assert_eq!(sentences.len(), Refusal::ALL.len());
     }
 
     #[test]
     fn every_byte_is_an_answer_or_stops() {
         for byte in 0..=u8::MAX {
-            let refusal = Refusal::of_number(byte);
-            let known = |letters: &[u8]| refusal.is_some() || letters.contains(&byte);
-            assert_eq!(catch_unwind(|| accepted(byte)).is_ok(), known(&[0]));
-            assert_eq!(catch_unwind(|| status(byte)).is_ok(), known(b"ocd"));
-            assert_eq!(catch_unwind(|| verdict(byte)).is_ok(), known(b"yn"));
+            let known =
+                |least, letters: &[u8]| (least..=15).contains(&byte) || letters.contains(&byte);
+            assert_eq!(catch_unwind(|| accepted(byte)).is_ok(), known(5, &[0]));
+            assert_eq!(catch_unwind(|| status(byte)).is_ok(), known(5, b"ocd"));
+            assert_eq!(catch_unwind(|| policy_accepted(byte, 7)).is_ok(), known(1, &[0]));
+            assert_eq!(catch_unwind(|| verdict(byte, 7)).is_ok(), known(1, b"yn"));
         }
-        assert_eq!(accepted(0), Ok(()));
+        assert_eq!((accepted(0), policy_accepted(0, 7)), (Ok(()), Ok(())));
         assert_eq!(status(b'd'), Ok(Status::Closed));
-        assert_eq!(verdict(b'n'), Ok(false));
+        assert_eq!(verdict(b'n', 7), Ok(false));
         assert_eq!(status(15), Err(Refusal::Monitor));
+        assert_eq!(policy_accepted(2, 7), Err(Refusal::Word { place: 7 }));
+        assert_eq!(verdict(4, 7), Err(Refusal::Unit { place: 7 }));
+        assert_eq!(verdict(6, 7), Err(Refusal::Rows));
     }
 }

@@ -17,7 +17,8 @@ const APART: u32 = 9;
 ///
 /// Its [`words`](Self::words) are in the layout, exactly one term, at most 31, and not and plus stand
 /// over unit terms only. So a call refuses them only if they name a user or role that is not
-/// declared. A part that cannot be made is refused as the call would refuse it.
+/// declared. A part that cannot be made is refused as the call would refuse that part alone, at word
+/// 0.
 ///
 /// # Example
 ///
@@ -31,8 +32,8 @@ const APART: u32 = 9;
 /// let others = Term::plus(Term::not(Term::set(&[3])?)?)?;
 /// let policy = Term::either(duties, Term::together(duties, others)?)?;
 /// Monitor::open(4, 2, policy.words(), &[1, 2, 3, 1])?;
-/// assert_eq!(Term::role(16), Err(Refusal::Word));
-/// assert_eq!(Term::plus(duties), Err(Refusal::Unit));
+/// assert_eq!(Term::role(16), Err(Refusal::Word { place: 0 }));
+/// assert_eq!(Term::plus(duties), Err(Refusal::Unit { place: 0 }));
 /// # Ok(())
 /// # }
 /// ```
@@ -57,7 +58,7 @@ impl Term {
         if usize::from(role) < MAX_ROLES {
             Ok(Term::leaf(ROLE, role.into()))
         } else {
-            Err(Refusal::Word)
+            Err(Refusal::Word { place: 0 })
         }
     }
 
@@ -67,7 +68,7 @@ impl Term {
     /// [`Word`](Refusal::Word) if there is no user, or one is not 0 to 15.
     pub fn set(users: &[u8]) -> Result<Term, Refusal> {
         if users.is_empty() || users.iter().any(|user| usize::from(*user) >= MAX_USERS) {
-            return Err(Refusal::Word);
+            return Err(Refusal::Word { place: 0 });
         }
         Ok(Term::leaf(SET, users.iter().fold(0, |mask, user| mask | 1 << user)))
     }
@@ -150,7 +151,7 @@ impl Term {
         if inner.unit {
             Ok(self)
         } else {
-            Err(Refusal::Unit)
+            Err(Refusal::Unit { place: 0 })
         }
     }
 }

@@ -174,7 +174,7 @@ fn outputs() {
 
 #[test]
 fn refusals_say_what_they_are() {
-    let refusal = Monitor::open(1, 1, &[], &[]).expect_err("it has no word");
-    assert_eq!(refusal.to_string(), "no word, or more than 31");
+    let refusal = Monitor::open(1, 1, &[EVERYONE], &[]).expect_err("it has no row");
+    assert_eq!(refusal.to_string(), "6: role rows not one a user, or a role not declared");
     assert_eq!(Refusal::Monitor.number(), 15);
 }

@@ -77,11 +77,9 @@ fn words_of_each_kind() -> Result<(), Refusal> {
 
 #[test]
 fn numbers_and_sets_are_checked() {
-    assert_eq!(Term::role(16), Err(Refusal::Word));
-    assert_eq!(Term::role(255), Err(Refusal::Word));
-    assert_eq!(Term::set(&[]), Err(Refusal::Word));
-    assert_eq!(Term::set(&[3, 16]), Err(Refusal::Word));
-    assert_eq!(Term::set(&[255]), Err(Refusal::Word));
+    let refused = Err(Refusal::Word { place: 0 });
+    assert_eq!([Term::role(16), Term::role(255)], [refused; 2]);
+    assert_eq!([&[][..], &[3, 16], &[255]].map(Term::set), [refused; 3]);
 }
 
 #[test]

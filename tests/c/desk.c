@@ -34,11 +34,12 @@ int main(void)
     const uint16_t roles[] = {1 << 0, 1 << 0 | 1 << 1}; /* user 0 counts; user 1 counts and approves */
     struct oskhrein_monitor quote = OSKHREIN_BLANK;
     uint16_t enabled = 0; /* bit u for user u */
+    uint8_t place = 0;
 
     if (oskhrein_layout() != OSKHREIN_LAYOUT)
         return 1; /* the library is not this header's */
-    if (oskhrein_open(&quote, 2, 2, policy, 3, roles, 2) != OSKHREIN_ACCEPTED)
-        return 1;
+    if (oskhrein_open(&quote, 2, 2, policy, 3, roles, 2, &place) != OSKHREIN_ACCEPTED)
+        return 1; /* with 1 to 4, place says which word of the policy is at fault */
     if (oskhrein_enabled(&quote, workspace, OSKHREIN_WORKSPACE_WORDS, &enabled) != OSKHREIN_ACCEPTED)
         return 1;
     show(enabled);

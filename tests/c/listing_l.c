@@ -1,29 +1,19 @@
 /* Document 01's listing L and settled examples through the header and the static library, from C and from C++. */
 #include "oskhrein.h"
 
+#include "check.h"
+
 #include <stddef.h>
 #include <stdint.h>
 #include <stdio.h>
 #include <string.h>
 
-static int passed;
-static int failed;
-
-static void check(int ok, const char *what)
-{
-    if (ok) {
-        passed++;
-        return;
-    }
-    failed++;
-    printf("failed: %s\n", what);
-}
-
-#define CHECK(ok) check((ok), #ok)
-
 /* One word past the end, which every call must keep. */
 static uint32_t workspace[OSKHREIN_WORKSPACE_WORDS + 1];
 #define GUARD 0xa5a5a5a5u
+
+/* For the place of a policy's fault; places.c looks at it. */
+static uint8_t place;
 
 static const uint32_t POLICY_F[] = {0x08000000, 0x09000000, 0x02000000, 0x06000000, 0x02000002,
                                     0x09000000, 0x02000000, 0x02000000, 0x05000000, 0x01000000};
@@ -56,7 +46,7 @@ static int same(const struct oskhrein_monitor *a, const struct oskhrein_monitor 
 
 static uint8_t open_l(struct oskhrein_monitor *monitor)
 {
-    return oskhrein_open(monitor, 3, 3, POLICY_F, WORDS_F, ROWS_L, 3);
+    return oskhrein_open(monitor, 3, 3, POLICY_F, WORDS_F, ROWS_L, 3, &place);
 }
 
 static void version_and_layout(void)
@@ -115,16 +105,16 @@ static void opening(void)
     CHECK(open_l(&monitor) == OSKHREIN_ACCEPTED);
     CHECK(same(&monitor, &want));
 
-    CHECK(oskhrein_open(&monitor, 17, 3, POLICY_F, WORDS_F, ROWS_L, 3) == OSKHREIN_COUNTS);
+    CHECK(oskhrein_open(&monitor, 17, 3, POLICY_F, WORDS_F, ROWS_L, 3, &place) == OSKHREIN_COUNTS);
     CHECK(same(&monitor, &blank));
     CHECK(open_l(&monitor) == OSKHREIN_ACCEPTED);
-    CHECK(oskhrein_open(&monitor, 3, 3, POLICY_F, WORDS_F, ROWS_L, 2) == OSKHREIN_ROWS);
+    CHECK(oskhrein_open(&monitor, 3, 3, POLICY_F, WORDS_F, ROWS_L, 2, &place) == OSKHREIN_ROWS);
     CHECK(same(&monitor, &blank));
-    CHECK(oskhrein_open(&monitor, 3, 3, POLICY_F, 0, ROWS_L, 3) == OSKHREIN_WORD_COUNT);
-    CHECK(oskhrein_open(&monitor, 3, 2, POLICY_F, WORDS_F, ROWS_L, 3) == OSKHREIN_WORD);
-    CHECK(oskhrein_open(&monitor, 3, 3, POLICY_F, WORDS_F - 1, ROWS_L, 3) == OSKHREIN_TERM);
+    CHECK(oskhrein_open(&monitor, 3, 3, POLICY_F, 0, ROWS_L, 3, &place) == OSKHREIN_WORD_COUNT);
+    CHECK(oskhrein_open(&monitor, 3, 2, POLICY_F, WORDS_F, ROWS_L, 3, &place) == OSKHREIN_WORD);
+    CHECK(oskhrein_open(&monitor, 3, 3, POLICY_F, WORDS_F - 1, ROWS_L, 3, &place) == OSKHREIN_TERM);
     static const uint32_t plus_over_together[] = {0x05000000, 0x08000000, 0x01000000, 0x01000000};
-    CHECK(oskhrein_open(&monitor, 3, 3, plus_over_together, 4, ROWS_L, 3) == OSKHREIN_UNIT);
+    CHECK(oskhrein_open(&monitor, 3, 3, plus_over_together, 4, ROWS_L, 3, &place) == OSKHREIN_UNIT);
 }
 
 static void listing_l(void)
@@ -156,7 +146,7 @@ static uint8_t satisfies_f(uint8_t first, uint8_t second, uint8_t third, uint8_t
 {
     static const uint16_t rows[] = {2, 5, 4};
     const uint8_t counts[OSKHREIN_MAX_USERS] = {first, second, third, undeclared};
-    return oskhrein_satisfies(3, 3, POLICY_F, WORDS_F, rows, 3, counts, workspace, n_workspace);
+    return oskhrein_satisfies(3, 3, POLICY_F, WORDS_F, rows, 3, counts, workspace, n_workspace, &place);
 }
 
 static void multisets(void)
@@ -260,7 +250,7 @@ static void enabled(void)
     CHECK(oskhrein_enabled(&before, workspace, OSKHREIN_WORKSPACE_WORDS, &users) == OSKHREIN_ACCEPTED);
     check(users == 0 && workspace_is(GUARD), "nobody may act on a closed monitor");
 
-    CHECK(oskhrein_open(&monitor, 2, 1, plus_everyone, 2, rows, 2) == OSKHREIN_ACCEPTED);
+    CHECK(oskhrein_open(&monitor, 2, 1, plus_everyone, 2, rows, 2, &place) == OSKHREIN_ACCEPTED);
     for (int taken = 0; taken < OSKHREIN_MAX_ACTIONS; taken++) {
         CHECK(oskhrein_enabled(&monitor, workspace, OSKHREIN_WORKSPACE_WORDS, &users) == OSKHREIN_ACCEPTED && users == 1);
         CHECK(oskhrein_event(&monitor, 0x01000000, workspace, OSKHREIN_WORKSPACE_WORDS) == OSKHREIN_ACCEPTED);
@@ -282,13 +272,13 @@ static void normal_forms(void)
     for (size_t i = 0; i < WORDS_F + 2; i++) {
         out[i] = before[i] = GUARD;
     }
-    CHECK(oskhrein_normal_form(3, 3, POLICY_F, WORDS_F, out, WORDS_F - 1) == OSKHREIN_OUTPUT);
-    CHECK(oskhrein_normal_form(3, 3, plus_over_together, 4, out, WORDS_F) == OSKHREIN_UNIT);
-    CHECK(oskhrein_normal_form(0, 3, POLICY_F, WORDS_F, out, WORDS_F) == OSKHREIN_COUNTS);
+    CHECK(oskhrein_normal_form(3, 3, POLICY_F, WORDS_F, out, WORDS_F - 1, &place) == OSKHREIN_OUTPUT);
+    CHECK(oskhrein_normal_form(3, 3, plus_over_together, 4, out, WORDS_F, &place) == OSKHREIN_UNIT);
+    CHECK(oskhrein_normal_form(0, 3, POLICY_F, WORDS_F, out, WORDS_F, &place) == OSKHREIN_COUNTS);
     CHECK(memcmp(out, before, sizeof out) == 0);
-    CHECK(oskhrein_normal_form(3, 3, POLICY_F, WORDS_F, out, WORDS_F + 2) == OSKHREIN_ACCEPTED);
+    CHECK(oskhrein_normal_form(3, 3, POLICY_F, WORDS_F, out, WORDS_F + 2, &place) == OSKHREIN_ACCEPTED);
     check(memcmp(out, want, sizeof out) == 0, "P10");
-    CHECK(oskhrein_normal_form(3, 3, both, 3, out, 3) == OSKHREIN_ACCEPTED);
+    CHECK(oskhrein_normal_form(3, 3, both, 3, out, 3, &place) == OSKHREIN_ACCEPTED);
     check(memcmp(out, both, sizeof both) == 0, "P11");
 }
 
@@ -303,6 +293,5 @@ int main(void)
     kept_mask();
     enabled();
     normal_forms();
-    printf("%d passed, %d failed\n", passed, failed);
-    return failed != 0;
+    return report();
 }

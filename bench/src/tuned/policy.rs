@@ -177,12 +177,14 @@ impl Who for All {
 }
 
 /// What was read so far. The terms are a mask of their first words: the last one read is the lowest.
+/// So are the bad words, and each not and plus over a term that is no unit term.
 #[derive(Default)]
 struct Reader {
     shape: Shape,
     terms: u32,
     broken: bool,
-    misplaced: bool,
+    bad: u32,
+    misplaced: u32,
 }
 
 impl Reader {
@@ -196,7 +198,7 @@ impl Reader {
     #[inline(always)]
     fn one_side(&mut self, i: usize) {
         self.broken |= self.terms == 0;
-        self.misplaced |= !self.is_unit(i + 1);
+        self.misplaced |= u32::from(!self.is_unit(i + 1)) << (i & 31);
         self.terms = self.terms & self.terms.wrapping_sub(1) | 1 << (i & 31);
     }
 
@@ -223,6 +225,9 @@ impl Reader {
             3 if operand.wrapping_sub(1) < limits.1 => who.set(operand),
             4 if operand == 0 => {
                 self.one_side(i);
+                if !self.is_unit(i + 1) {
+                    return true;
+                }
                 !who.at(i + 1)
             }
             5 if operand == 0 => {
@@ -263,6 +268,23 @@ impl Shape {
     }
 }
 
+/// Where the first term ends; where it does not, the words run out at their end.
+#[cold]
+fn end_of_first(words: &[u32]) -> usize {
+    let mut open = 1;
+    for (i, word) in words.iter().enumerate() {
+        match word >> 24 {
+            1..=3 => open -= 1,
+            6..=9 => open += 1,
+            _ => {}
+        }
+        if open == 0 {
+            return i + 1;
+        }
+    }
+    words.len()
+}
+
 /// Reads a policy: its shape, or 5, 1, 2, 3, 4, looked for in that order.
 #[inline(always)]
 pub fn read(users: u32, roles: u32, words: &[u32], who: &mut impl Who) -> Result<Shape, Refusal> {
@@ -277,12 +299,16 @@ pub fn read(users: u32, roles: u32, words: &[u32], who: &mut impl Who) -> Result
     reader.shape.words = words.len();
     for (i, word) in words.iter().enumerate().rev() {
         if !reader.enter(i, *word, limits, who) {
-            return Err(Refusal::Word);
+            reader.bad |= 1 << (i & 31);
         }
     }
+    let first = |mask: u32| mask.trailing_zeros() as usize;
     match () {
-        () if reader.broken || reader.terms != 1 => Err(Refusal::Term),
-        () if reader.misplaced => Err(Refusal::Unit),
+        () if reader.bad != 0 => Err(Refusal::Word { place: first(reader.bad) }),
+        () if reader.broken || reader.terms != 1 => {
+            Err(Refusal::Term { place: end_of_first(words) })
+        }
+        () if reader.misplaced != 0 => Err(Refusal::Unit { place: first(reader.misplaced) }),
         () => Ok(reader.shape),
     }
 }

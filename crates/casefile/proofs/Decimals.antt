@@ -7,7 +7,9 @@ use native.Mathlib.Omega.{arith}
 use borrow.Author.Tests.{lt-ltb, le-ltb}
 use lib.Dec.{ltb}
 use lib.ListN.{length, length-append}
-use Rattle.casefile.specs.Texts.{digit, decimal, refusedText, takenText, lineText}
+use Rattle.policy.specs.declared.Code.{Code}
+use Rattle.policy.specs.declared.Code.the-variants.{Fault, Plain}
+use Rattle.casefile.specs.Texts.{digit, decimal, refusedNumber, refusedText, takenText, lineText}
 
 pub one-digit : (n : ℕ) → n < 10 → decimal n ≡ digit n ∷ []
 one-digit n h = rw (lt-ltb n 10 h)
@@ -42,5 +44,7 @@ line-length place k status h =
 pub taken-length : (n : ℕ) → n < 100 → length (takenText n) ≤ 9
 taken-length n h = omega (arith, length-append (decimal n) (10 ∷ []), at-most-two n h)
 
-pub refused-length : (k : ℕ) → length (refusedText k) ≤ 12
-refused-length k = omega (arith, length-append (decimal k) (10 ∷ []), at-most-three k)
+pub refused-length : (c : Code) → length (refusedText c) ≤ 19
+refused-length (Fault k p) =
+    omega (arith, length-append (refusedNumber k) (32 ∷ 97 ∷ 116 ∷ 32 ∷ (decimal p ++ (10 ∷ []))), length-append (decimal p) (10 ∷ []), at-most-three k, at-most-three p)
+refused-length (Plain k) = omega (arith, length-append (refusedNumber k) (10 ∷ []), at-most-three k)

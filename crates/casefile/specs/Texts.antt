@@ -5,8 +5,10 @@ use Prim.Native.Nat.{ℕ, suc, _+_, _/_, _%_}
 use lib.Dec.{ltb, eqb}
 use lib.ListN.{length, drop}
 use Rattle.policy.specs.Codes.{CASE}
+use Rattle.policy.specs.declared.Code.{Code}
+use Rattle.policy.specs.declared.Code.the-variants.{Fault, Plain}
 use Rattle.monitor.specs.declared.Monitor.{Monitor}
-use Rattle.monitor.specs.Monitors.{openCode, opened}
+use Rattle.monitor.specs.Monitors.{openCode, opened, opening}
 use Rattle.monitor.specs.Runs.{Step, run, taken}
 use Rattle.casefile.specs.Cases.{caseOk, openingOf, eventWords}
 use Rattle.casefile.specs.declared.Printed.{Printed}
@@ -22,9 +24,13 @@ decimal n =
     (cond (ltb n 100) (digit (n / 10) ∷ digit n ∷ [])
     (digit (n / 100) ∷ digit (n / 10) ∷ digit n ∷ []))
 
--- `refused k`, and `taken n`; every line ends in a line feed, 10
-abbrev pub refusedText : ℕ → List ℕ
-refusedText k = 114 ∷ 101 ∷ 102 ∷ 117 ∷ 115 ∷ 101 ∷ 100 ∷ 32 ∷ (decimal k ++ (10 ∷ []))
+-- `refused k`, of a policy's fault `refused k at p` (document 02, E2), and `taken n`; every line ends in a line feed, 10
+abbrev pub refusedNumber : ℕ → List ℕ
+refusedNumber k = 114 ∷ 101 ∷ 102 ∷ 117 ∷ 115 ∷ 101 ∷ 100 ∷ 32 ∷ decimal k
+
+abbrev pub refusedText : Code → List ℕ
+refusedText (Fault k p) = refusedNumber k ++ (32 ∷ 97 ∷ 116 ∷ 32 ∷ (decimal p ++ (10 ∷ [])))
+refusedText (Plain k) = refusedNumber k ++ (10 ∷ [])
 
 abbrev pub takenText : ℕ → List ℕ
 takenText n = 116 ∷ 97 ∷ 107 ∷ 101 ∷ 110 ∷ 32 ∷ (decimal n ++ (10 ∷ []))
@@ -46,11 +52,11 @@ stepLines place (s ∷ l) = lineText place (s .code) (s .letter) ++ stepLines (s
 unfoldable pub runText : Monitor → List ℕ → List ℕ
 runText m ws = stepLines 1 (caseRun m ws) ++ takenText (taken (caseRun m ws))
 
--- 14, then the opening's numbers
+-- 14, then the opening's codes
 unfoldable pub caseText : List ℕ → List ℕ
 caseText b =
-    cond (not (caseOk b)) (refusedText CASE)
-    (cond (eqb (openCode (openingOf b)) 0) (runText (opened (openingOf b)) (eventWords b)) (refusedText (openCode (openingOf b))))
+    cond (not (caseOk b)) (refusedText (Plain CASE))
+    (cond (eqb (openCode (openingOf b)) 0) (runText (opened (openingOf b)) (eventWords b)) (refusedText (opening (openingOf b) .code)))
 
 -- The output must hold the longest text: 256 lines of at most 9 bytes, and one more. A shorter one is left as it was.
 abbrev pub limit : ℕ

@@ -12,8 +12,8 @@ use super::numbers::half_at;
 use super::numbers::length_of;
 use super::numbers::offset_of;
 use super::numbers::wide_at;
-use monitor::Answer;
 use monitor::Monitor;
+use monitor::Opened;
 
 // Whether the first part begins at 12, each other where the last ended, and the third ends the file.
 fn parts_ok(bytes: &[u8]) -> bool
@@ -98,7 +98,7 @@ fn fill_rows(bytes: &[u8], k: usize, n: usize, rows: &mut [u16])
 }
 
 // Opens the monitor that the case describes.
-pub(crate) fn open_case(bytes: &[u8]) -> Answer
+pub(crate) fn open_case(bytes: &[u8]) -> Opened
     requires { ⌜ So (caseOk (now bytes)) ⌝ }
     ensures { λ r. ⌜ r ≡ opening (openingOf (now (bytes .entry))) ⌝ }
 {

@@ -10,6 +10,7 @@ mod texts;
 
 use cases::case_ok;
 use cases::open_case;
+use policy::Code;
 use policy::codes;
 use runs::run;
 use texts::put_refused;
@@ -31,11 +32,11 @@ pub fn print_case(bytes: &[u8], out: &mut [u8]) -> Printed
         return Printed::TooShort;
     }
     if !case_ok(bytes) {
-        return Printed::Written(put_refused(out, 0, codes::CASE));
+        return Printed::Written(put_refused(out, 0, Code::Plain(codes::CASE)));
     }
     let opened = open_case(bytes);
     let code = opened.code;
-    if code != codes::ACCEPTED {
+    if policy::number_of(code) != codes::ACCEPTED {
         return Printed::Written(put_refused(out, 0, code));
     }
     let monitor = opened.monitor;

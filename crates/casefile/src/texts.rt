@@ -4,6 +4,7 @@ ghost use mathlib.Core.List.{[], _∷_, _++_};
 ghost use Prim.Native.Nat.{_/_};
 ghost use Rattle.casefile.specs.Texts.{digit, decimal, refusedText, takenText, lineText};
 ghost use Rattle.casefile.specs.Private.{HasRoom, Put};
+use policy::Code;
 
 // The last decimal digit of a number.
 fn digit_of(n: usize) -> u8
@@ -67,22 +68,36 @@ fn put_field(out: &mut [u8], at: usize, n: usize) -> usize
     put(out, end, b' ')
 }
 
-// Some bytes, a number and a line feed.
-fn put_counted(out: &mut [u8], at: usize, word: &[u8], n: u8) -> usize
-    requires { ⌜ HasRoom (now out) at (now word ++ (decimal n ++ (10 ∷ []))) ⌝ }
-    ensures { λ r. ⌜ Put (now (out .entry)) at (now (word .entry) ++ (decimal n ++ (10 ∷ []))) r (now (out .exit)) ⌝ }
+// Some bytes and a number.
+fn put_numbered(out: &mut [u8], at: usize, word: &[u8], n: u8) -> usize
+    requires { ⌜ HasRoom (now out) at (now word ++ decimal n) ⌝ }
+    ensures { λ r. ⌜ Put (now (out .entry)) at (now (word .entry) ++ decimal n) r (now (out .exit)) ⌝ }
 {
     let number = put_bytes(out, at, word);
-    let end = put_decimal(out, number, n as usize);
+    put_decimal(out, number, n as usize)
+}
+
+// Some bytes, a number and a line feed.
+fn put_counted(out: &mut [u8], at: usize, word: &[u8], n: u8) -> usize
+    requires { ⌜ HasRoom (now out) at ((now word ++ decimal n) ++ (10 ∷ [])) ⌝ }
+    ensures { λ r. ⌜ Put (now (out .entry)) at ((now (word .entry) ++ decimal n) ++ (10 ∷ [])) r (now (out .exit)) ⌝ }
+{
+    let end = put_numbered(out, at, word, n);
     put(out, end, b'\n')
 }
 
-// `refused k`.
-pub(crate) fn put_refused(out: &mut [u8], at: usize, code: u8) -> usize
+// `refused k`, and `refused k at p` of a policy's fault.
+pub(crate) fn put_refused(out: &mut [u8], at: usize, code: Code) -> usize
     requires { ⌜ HasRoom (now out) at (refusedText code) ⌝ }
     ensures { λ r. ⌜ Put (now (out .entry)) at (refusedText code) r (now (out .exit)) ⌝ }
 {
-    put_counted(out, at, b"refused ", code)
+    match code {
+        Code::Fault { number, place } => {
+            let end = put_numbered(out, at, b"refused ", number);
+            put_counted(out, end, b" at ", place)
+        }
+        Code::Plain(number) => put_counted(out, at, b"refused ", number),
+    }
 }
 
 // `taken n`.

@@ -38,7 +38,7 @@ record Means (users roles : ℕ) (v : List ℕ) : Type 0 where
 means : (users roles : ℕ) (v : List ℕ) → IsAccepted users roles v → Means users roles v
 unfolding readPolicy
 means users roles v e =
-    let (φ, p, n, m) = read-is-encode users roles v (length v) (unitsOf (decode v)) .0 (ap (λ k. answer k v) e) in
+    let (φ, p, n, m) = read-is-encode users roles v (length v) (unitsOf (decode v)) .0 (ap (answer users roles v) e) in
     let c = counts-most users roles (p .counts) in
     record { φ = φ; is = p; decoded = decode-is-term users roles v φ p; layout = declared-fits users roles φ (c .0) (c .1) (p .isDeclared) }
 

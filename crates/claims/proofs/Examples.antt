@@ -4,6 +4,7 @@ use mathlib.Core.List.{List, [], _∷_, map}
 use Prim.Native.Nat.{ℕ}
 use Rattle.soda.specs.Bits.{setBit, clearBit}
 use Rattle.soda.specs.Tables.{table as judgements}
+use Rattle.policy.specs.Faults.{codeAt}
 use Rattle.policy.specs.Reading.{readPolicy}
 use Rattle.units.specs.Units.{metOf}
 use Rattle.normal.specs.NormalForms.{normalWords, normalRefusals, normalOut}
@@ -19,7 +20,7 @@ use Rattle.multiset.specs.MultisetTest.{testRefusals, testOf}
 use Rattle.claims.specs.Examples.{Settled}
 
 pub settled : Settled
-unfolding setBit clearBit judgements metOf readPolicy normalWords normalRefusals normalOut configurationOk instanceOk openRefusals fresh opened admission readEvent eventRefusals testRefusals testOf run
+unfolding setBit clearBit judgements metOf codeAt readPolicy normalWords normalRefusals normalOut configurationOk instanceOk openRefusals fresh opened admission readEvent eventRefusals testRefusals testOf run
 settled = refl
 
 -- ── who may act ──

@@ -4,6 +4,7 @@ use mathlib.Core.List.{List}
 use Prim.Native.Nat.{ℕ}
 use lib.ListN.{length}
 use Rattle.monitor.specs.declared.Monitor.{Monitor}
+use Rattle.policy.specs.Faults.{codeNumber}
 use Rattle.monitor.specs.Monitors.{Opening, openCode, opened, opening}
 use Rattle.monitor.specs.Events.{outcome}
 use Rattle.monitor.specs.Statuses.{statusOf}
@@ -18,7 +19,7 @@ pub record StepOfCalls (m : Monitor) (w : ℕ) (n : Lengths) (before before′ :
 
 -- A run starts with what an opening call hands back, and each of its steps is such calls, whatever their workspaces hold.
 abbrev pub OpeningIsCall : Type 0
-OpeningIsCall = (o : Opening) → (opening o .code ≡ openCode o) × (opening o .monitor ≡ opened o)
+OpeningIsCall = (o : Opening) → (codeNumber (opening o .code) ≡ openCode o) × (opening o .monitor ≡ opened o)
 
 abbrev pub StepIsCalls : Type 0
 StepIsCalls =

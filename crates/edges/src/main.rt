@@ -3,6 +3,7 @@ use monitor::Enabled;
 use monitor::Monitor;
 use monitor::Status;
 use multiset::Verdict;
+use policy::Code;
 
 // Fifteen boths and sixteen everyones: the longest policy, and one word more.
 const LONGEST: [u32; 31] = [
@@ -85,6 +86,23 @@ fn say(asked: &[u8], number: u8) {
     io::write_all(1, &end);
 }
 
+// A code by its number, and the place of a policy's fault.
+fn say_code(asked: &[u8], code: Code) {
+    match code {
+        Code::Fault { number, place } => say_place(asked, number, place),
+        Code::Plain(number) => say(asked, number),
+    }
+}
+
+fn say_place(asked: &[u8], number: u8, place: u8) {
+    io::write_all(1, asked);
+    io::print_decimal(1, number as u64);
+    io::write_all(1, b" at ");
+    io::print_decimal(1, place as u64);
+    let end = [b'\n'];
+    io::write_all(1, &end);
+}
+
 // A status by its letter, or its number.
 fn say_status(asked: &[u8], status: Status) {
     match status {
@@ -106,7 +124,7 @@ fn say_verdict(asked: &[u8], verdict: Verdict) {
     match verdict {
         Verdict::Yes => say_letter(asked, b'y'),
         Verdict::No => say_letter(asked, b'n'),
-        Verdict::Refused(k) => say(asked, k),
+        Verdict::Refused(code) => say_code(asked, code),
     }
 }
 
@@ -126,26 +144,32 @@ fn say_mask(asked: &[u8], mask: u16) {
     io::write_all(1, &end);
 }
 
+// Opens a monitor, and says the code.
+fn open(asked: &[u8], users: u8, roles: u8, words: &[u32], rows: &[u16]) {
+    let code = Monitor::open(users, roles, words, rows).code;
+    say_code(asked, code);
+}
+
 fn words() {
     let rows = [1u16];
     let longest = LONGEST;
-    say(b"31 words: ", Monitor::open(1, 1, &longest, &rows).code);
+    open(b"31 words: ", 1, 1, &longest, &rows);
     let longer = TOO_LONG;
-    say(b"32 words: ", Monitor::open(1, 1, &longer, &rows).code);
+    open(b"32 words: ", 1, 1, &longer, &rows);
 }
 
 fn users() {
     let rows = [1u16; 16];
     let plus = PLUS;
-    say(b"16 users: ", Monitor::open(16, 1, &plus, &rows).code);
+    open(b"16 users: ", 16, 1, &plus, &rows);
     let mut workspace = [0u32; 8192];
     let opened = Monitor::open(16, 1, &plus, &rows).monitor;
     say_enabled(b"16 users, who may act: ", opened.enabled(&mut workspace));
     let more = [1u16; 17];
-    say(b"17 users: ", Monitor::open(17, 1, &plus, &more).code);
+    open(b"17 users: ", 17, 1, &plus, &more);
     let roles = [0xffffu16];
-    say(b"16 roles: ", Monitor::open(1, 16, &plus, &roles).code);
-    say(b"17 roles: ", Monitor::open(1, 17, &plus, &roles).code);
+    open(b"16 roles: ", 1, 16, &plus, &roles);
+    open(b"17 roles: ", 1, 17, &plus, &roles);
 }
 
 // One action by user 0; prints its number.
@@ -204,9 +228,118 @@ fn workspaces() {
     );
 }
 
+// One everyone, and operators over it.
+const ALL: u32 = 0x0100_0000;
+
+const NOT: u32 = 0x0400_0000;
+
+const ANY: u32 = 0x0500_0000;
+
+const TOGETHER: u32 = 0x0800_0000;
+
+// A word of no kind, a role and a set that two users and two roles do not have, and the empty set.
+const NO_KIND: u32 = 0x0a00_0000;
+
+const ROLE: u32 = 0x0200_0002;
+
+const SET: u32 = 0x0300_0004;
+
+const EMPTY: u32 = 0x0300_0000;
+
+// Opens under words that are refused, with two users and two roles.
+fn refuse(asked: &[u8], words: &[u32]) {
+    let rows = [1u16, 2];
+    open(asked, 2, 2, words, &rows);
+}
+
+// Places of 1 and 2.
+fn bad_words() {
+    let none: [u32; 1] = [ALL];
+    refuse(b"no word: ", &none[..0]);
+    let first = [NO_KIND, ALL];
+    refuse(b"no kind, first: ", &first);
+    let middle = [TOGETHER, ROLE, ALL];
+    refuse(b"undeclared role, middle: ", &middle);
+    let last = [TOGETHER, ALL, SET];
+    refuse(b"undeclared user, last: ", &last);
+    let two = [TOGETHER, EMPTY, ROLE, ALL];
+    refuse(b"two bad words: ", &two);
+    let mut longest = LONGEST;
+    longest[30] = EMPTY;
+    refuse(b"31 words, empty set last: ", &longest);
+}
+
+// Places of 3.
+fn left_over() {
+    let second = [ALL, ALL];
+    refuse(b"left over, second: ", &second);
+    let middle = [TOGETHER, ALL, ALL, NOT, ALL];
+    refuse(b"left over, middle: ", &middle);
+    let last = [NOT, ALL, ALL];
+    refuse(b"left over, last: ", &last);
+    let one = [NOT];
+    refuse(b"one word runs out: ", &one);
+    let side = [TOGETHER, ALL, NOT];
+    refuse(b"three words run out: ", &side);
+    let mut longest = LONGEST;
+    longest[28] = NOT;
+    refuse(b"31 words, left over: ", &longest);
+    let mut longer = LONGEST;
+    longer[30] = NOT;
+    refuse(b"31 words run out: ", &longer);
+}
+
+// Places of 4, and 3 before 4.
+fn no_unit_terms() {
+    let first = [ANY, TOGETHER, ALL, ALL];
+    refuse(b"plus over together, first: ", &first);
+    let middle = [TOGETHER, ALL, NOT, ANY, ALL];
+    refuse(b"not over plus, in the right side: ", &middle);
+    let nested = [TOGETHER, NOT, NOT, ANY, ALL, ANY, ANY, ALL];
+    refuse(b"not over not over plus, then plus over plus: ", &nested);
+    let more = [NOT, ANY, ALL, ALL];
+    refuse(b"not over plus, a word left over: ", &more);
+    let mut longest = LONGEST;
+    longest[28] = NOT;
+    longest[29] = ANY;
+    refuse(b"31 words, not over plus last: ", &longest);
+}
+
+// The other numbers have no place.
+fn no_place() {
+    let bad = [NO_KIND];
+    let rows = [1u16];
+    open(b"no user, bad word: ", 0, 1, &bad, &rows);
+    let plus = PLUS;
+    open(b"no row: ", 1, 1, &plus, &rows[..0]);
+    let counts = [1u8; 16];
+    let mut workspace = [0u32; 8192];
+    say_verdict(
+        b"multiset, bad word: ",
+        multiset::satisfies(1, 1, &bad, &rows, counts, &mut workspace),
+    );
+    say_verdict(
+        b"multiset, undeclared user: ",
+        multiset::satisfies(1, 1, &plus, &rows, counts, &mut workspace),
+    );
+    let mut out = [0u32; 1];
+    say_code(
+        b"normal form, bad word: ",
+        normal::normal_form(1, 1, &bad, &mut out),
+    );
+    say_code(
+        b"normal form, short output: ",
+        normal::normal_form(1, 1, &plus, &mut out),
+    );
+}
+
 fn main() {
     words();
     users();
     actions();
     workspaces();
+    bad_words();
+    left_over();
+    no_unit_terms();
+    no_place();
 }

@@ -3,6 +3,7 @@
 use mathlib.Core.Bool.{cond}
 use Prim.Native.Nat.{ℕ}
 use lib.Dec.{eqb}
+use Rattle.policy.specs.Faults.{codeNumber}
 use Rattle.monitor.specs.Statuses.{StatusOutcome}
 use Rattle.multiset.specs.MultisetTest.{TestOutcome}
 
@@ -15,4 +16,4 @@ statusByte s = byteOf (s .code) (s .letter)
 
 -- `y` or `n`, or a number
 abbrev pub verdictByte : TestOutcome → ℕ
-verdictByte v = byteOf (v .code) (v .letter)
+verdictByte v = byteOf (codeNumber (v .code)) (v .letter)

@@ -2,21 +2,23 @@
 // pointer, then its length.
 ghost use mathlib.Core.Path.{_≡_};
 ghost use lib.ListN.{length};
-ghost use Rattle.normal.specs.NormalForms.{normalCode, normalOut};
-ghost use Rattle.monitor.specs.Monitors.{given, opening};
+ghost use Rattle.policy.specs.Faults.{codeNumber};
+ghost use Rattle.normal.specs.NormalForms.{normalCode, normalAnswer, normalOut};
+ghost use Rattle.monitor.specs.Monitors.{given};
 ghost use Rattle.monitor.specs.Events.{outcome};
 ghost use Rattle.monitor.specs.Statuses.{statusOf, statusNumber, letter};
-ghost use Rattle.multiset.specs.MultisetTest.{testOf, verdictNumber, verdictLetter, Numbered};
+ghost use Rattle.multiset.specs.MultisetTest.{testOf, verdictCode, verdictLetter, Numbered};
 ghost use Rattle.embed.specs.Bytes.{byteOf, statusByte, verdictByte};
-ghost use Rattle.embed.specs.Lent.{enabledLent};
+ghost use Rattle.embed.specs.Lent.{placeLeft, openingLent, enabledLent};
 ghost use Rattle.embed.specs.Versions.{version, layout};
 use monitor::Enabled;
 use monitor::Monitor;
 use monitor::Status;
 use multiset::Verdict;
+use policy::Code;
 
-// The version, 0.2.0: major, minor and patch number, a byte each.
-const VERSION: u32 = 0x000200;
+// The version, 0.3.0: major, minor and patch number, a byte each.
+const VERSION: u32 = 0x000300;
 
 // The number of the layout of what is lent: another one whenever a field of it comes, goes, moves or means something else.
 const LAYOUT: u32 = 2;
@@ -33,14 +35,27 @@ fn status_byte(status: Status) -> u8
     }
 }
 
-// A verdict as one byte.
-fn verdict_byte(verdict: Verdict) -> u8
-    ensures { λ r. ⌜ r ≡ byteOf (verdictNumber verdict) (verdictLetter verdict) ⌝ }
+// A code's number; the place of a policy's fault goes to the lent byte, which another code leaves as it was.
+fn lend(code: Code, place: &mut u8) -> u8
+    ensures { λ r. ⌜ (r ≡ codeNumber code) × (now (place .exit) ≡ placeLeft code (now (place .entry))) ⌝ }
+{
+    match code {
+        Code::Fault { number, place: at } => {
+            *place = at;
+            number
+        }
+        Code::Plain(number) => number,
+    }
+}
+
+// A verdict as one byte, and the place of a policy's fault.
+fn verdict_byte(verdict: Verdict, place: &mut u8) -> u8
+    ensures { λ r. ⌜ (r ≡ byteOf (codeNumber (verdictCode verdict)) (verdictLetter verdict)) × (now (place .exit) ≡ placeLeft (verdictCode verdict) (now (place .entry))) ⌝ }
 {
     match verdict {
         Verdict::Yes => b'y',
         Verdict::No => b'n',
-        Verdict::Refused(code) => code,
+        Verdict::Refused(code) => lend(code, place),
     }
 }
 
@@ -51,7 +66,7 @@ fn status_of(monitor: Monitor, workspace: &mut [u32]) -> u8
     status_byte(monitor.status(workspace))
 }
 
-// Opens a monitor where the caller keeps it; a refusal leaves the blank one there.
+// Opens a monitor where the caller keeps it; a refusal leaves the blank one there. A policy's fault, 1 to 4, has its place written.
 #[no_mangle]
 pub extern "C" fn oskhrein_open(
     monitor: &mut Monitor,
@@ -59,12 +74,14 @@ pub extern "C" fn oskhrein_open(
     roles: u8,
     words: &[u32],
     rows: &[u16],
+    place: &mut u8,
 ) -> u8
-    ensures { λ r. ⌜ record { code = r; monitor = now (monitor .exit) } ≡ opening (given users roles (now (words .entry)) (now (rows .entry))) ⌝ }
+    ensures { λ r. ⌜ record { code = r; place = now (place .exit); monitor = now (monitor .exit) } ≡ openingLent (given users roles (now (words .entry)) (now (rows .entry))) (now (place .entry)) ⌝ }
 {
     let opened = Monitor::open(users, roles, words, rows);
     *monitor = opened.monitor;
-    opened.code
+    let code = opened.code;
+    lend(code, place)
 }
 
 // One event (document 01: the thin call on a lent sheet): alters the monitor where the caller keeps it, with the answers of the call by
@@ -128,18 +145,27 @@ pub extern "C" fn oskhrein_satisfies(
     rows: &[u16],
     counts: &[u8; 16],
     workspace: &mut [u32],
+    place: &mut u8,
 ) -> u8
-    ensures { λ r. ⌜ (r ≡ verdictByte (testOf (given users roles (now (words .entry)) (now (rows .entry))) (now (counts .entry)) (length (now (workspace .entry))))) × Numbered (given users roles (now (words .entry)) (now (rows .entry))) (now (counts .entry)) (now (workspace .entry)) (now (workspace .exit)) ⌝ }
+    ensures { λ r. ⌜ (r ≡ verdictByte (testOf (given users roles (now (words .entry)) (now (rows .entry))) (now (counts .entry)) (length (now (workspace .entry))))) × (now (place .exit) ≡ placeLeft (testOf (given users roles (now (words .entry)) (now (rows .entry))) (now (counts .entry)) (length (now (workspace .entry))) .code) (now (place .entry))) × Numbered (given users roles (now (words .entry)) (now (rows .entry))) (now (counts .entry)) (now (workspace .entry)) (now (workspace .exit)) ⌝ }
 {
-    verdict_byte(multiset::satisfies(users, roles, words, rows, *counts, workspace))
+    let verdict = multiset::satisfies(users, roles, words, rows, *counts, workspace);
+    verdict_byte(verdict, place)
 }
 
 // The normal form of a policy, at the start of an output that the caller keeps.
 #[no_mangle]
-pub extern "C" fn oskhrein_normal_form(users: u8, roles: u8, words: &[u32], out: &mut [u32]) -> u8
-    ensures { λ r. ⌜ (r ≡ normalCode users roles (now (words .entry)) (length (now (out .entry)))) × (now (out .exit) ≡ normalOut users roles (now (words .entry)) (now (out .entry))) ⌝ }
+pub extern "C" fn oskhrein_normal_form(
+    users: u8,
+    roles: u8,
+    words: &[u32],
+    out: &mut [u32],
+    place: &mut u8,
+) -> u8
+    ensures { λ r. ⌜ (r ≡ normalCode users roles (now (words .entry)) (length (now (out .entry)))) × (now (place .exit) ≡ placeLeft (normalAnswer users roles (now (words .entry)) (length (now (out .entry)))) (now (place .entry))) × (now (out .exit) ≡ normalOut users roles (now (words .entry)) (now (out .entry))) ⌝ }
 {
-    normal::normal_form(users, roles, words, out)
+    let code = normal::normal_form(users, roles, words, out);
+    lend(code, place)
 }
 
 // The version of the library.

@@ -38,7 +38,7 @@ opened-rows-ok o e = not-false (rowsOk (o .users) (o .roles) (o .rows)) (clear-b
 pub opened-is-policy : OpenedIsPolicy
 unfolding readPolicy
 opened-is-policy o e =
-    let accepted = ap (λ k. answer k (o .words)) (clear-code (policy-refusals o) (opens-clear o e)) in
+    let accepted = ap (answer (o .users) (o .roles) (o .words)) (clear-code (policy-refusals o) (opens-clear o e)) in
     let (φ, p, n, m) = read-is-encode (o .users) (o .roles) (o .words) (length (o .words)) (unitsOf (decode (o .words))) .0 accepted in
     subst (IsPolicy (o .users) (o .roles) (o .words)) (sym (ap termOf (decode-is-term (o .users) (o .roles) (o .words) φ p))) p
 

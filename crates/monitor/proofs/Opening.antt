@@ -1,5 +1,5 @@
 -- What a policy read says of an opening: its number is the opening's, and where it is accepted the rows decide.
-use mathlib.Core.Path.{_≡_, refl, sym, subst, _∙_}
+use mathlib.Core.Path.{_≡_, refl, sym, ap, subst, _∙_}
 use mathlib.Core.Logic.{_≢_}
 use mathlib.Core.Bool.{Bool, true, false, _&&_, cond}
 use mathlib.Core.List.{List, []}
@@ -11,7 +11,10 @@ use Rattle.soda.proofs.Bools.{by-test}
 use Rattle.policy.specs.Codes.{ROWS}
 use Rattle.policy.specs.Refusals.{code, Refusals, Clear}
 use Rattle.policy.specs.Words.{decode}
+use Rattle.policy.specs.Faults.{codeAt}
 use Rattle.policy.specs.Reading.{countOk, refusals, unitsOf, readPolicy}
+use Rattle.policy.specs.declared.Code.{Code}
+use Rattle.policy.specs.declared.Code.the-variants.{Plain}
 use Rattle.policy.specs.declared.PolicyRead.{PolicyRead}
 use Rattle.policy.specs.declared.PolicyRead.the-variants.{Accepted, Refused}
 use Rattle.policy.proofs.Refusals.{clear, code-front, code-behind}
@@ -27,14 +30,14 @@ pub record IsRead (users roles : ℕ) (words : List ℕ) (n : ℕ) : Type 0 wher
 module _ (users roles : ℕ) (words : List ℕ) where
   abbrev Says : PolicyRead → Type 0
   Says (Accepted n m) = IsRead users roles words n
-  Says (Refused k) = (code (refusals users roles words) ≡ k) × (k ≢ 0)
+  Says (Refused c) = (c ≡ codeAt users roles words (code (refusals users roles words))) × (code (refusals users roles words) ≢ 0)
 
   says : Says (readPolicy users roles words)
   unfolding readPolicy
   says = go (eqb (code (refusals users roles words)) 0) refl
     where
       go : (b : Bool) → eqb (code (refusals users roles words)) 0 ≡ b
-          → Says (cond b (Accepted (length words) (unitsOf (decode words))) (Refused (code (refusals users roles words))))
+          → Says (cond b (Accepted (length words) (unitsOf (decode words))) (Refused (codeAt users roles words (code (refusals users roles words)))))
       go true z = record {
         clear-read = clear (refusals users roles words) refl (eqb-true (code (refusals users roles words)) 0 z);
         word-count = refl;
@@ -44,8 +47,9 @@ module _ (users roles : ℕ) (words : List ℕ) where
   pub read-accepted : (n m : ℕ) → readPolicy users roles words ≡ Accepted n m → IsRead users roles words n
   read-accepted n m e = subst Says e says
 
-  pub read-refused : (k : ℕ) → readPolicy users roles words ≡ Refused k → (code (refusals users roles words) ≡ k) × (k ≢ 0)
-  read-refused k e = subst Says e says
+  read-refused : (c : Code) → readPolicy users roles words ≡ Refused c
+      → (c ≡ codeAt users roles words (code (refusals users roles words))) × (code (refusals users roles words) ≢ 0)
+  read-refused c e = subst Says e says
 
 module _ (o : Opening) where
   -- the refusals of the policy, and of the rows behind them
@@ -55,16 +59,26 @@ module _ (o : Opening) where
   abbrev pub rows-refusal : Refusals
   rows-refusal = rowRefusals (o .users) (o .roles) (o .rows)
 
-  -- the number of an opening
-  pub code-refused : (k : ℕ) → readPolicy (o .users) (o .roles) (o .words) ≡ Refused k → openCode o ≡ k
+  -- the code that goes with a number
+  abbrev pub codeIn : ℕ → Code
+  codeIn k = codeAt (o .users) (o .roles) (o .words) k
+
+  -- the code of an opening
+  pub code-refused : (c : Code) → readPolicy (o .users) (o .roles) (o .words) ≡ Refused c → (c ≡ codeIn (openCode o)) × (openCode o ≢ 0)
   unfolding openRefusals
-  code-refused k e =
-      let r = read-refused (o .users) (o .roles) (o .words) k e in
-      code-front policy-refusals rows-refusal (λ z. r .1 (sym (r .0) ∙ z)) ∙ r .0
+  code-refused c e =
+      let r = read-refused (o .users) (o .roles) (o .words) c e in
+      let f = code-front policy-refusals rows-refusal (r .1) in
+      (r .0 ∙ ap codeIn (sym f), λ z. r .1 (sym f ∙ z))
 
   pub code-accepted : Clear policy-refusals → openCode o ≡ cond (rowsOk (o .users) (o .roles) (o .rows)) 0 ROWS
   unfolding openRefusals
   code-accepted h = code-behind policy-refusals rows-refusal h ∙ by-test (rowsOk (o .users) (o .roles) (o .rows)) (λ p. rw p) (λ p. rw p)
+
+  -- 6 and 0 have no place
+  pub code-plain : Clear policy-refusals → codeIn (openCode o) ≡ Plain (openCode o)
+  unfolding codeAt
+  code-plain h = rw (code-accepted h) (by-test (rowsOk (o .users) (o .roles) (o .rows)) (λ p. rw p) λ p. rw p)
 
   -- the configuration's number is the opening's, and where it is 0 the configuration is the opening's too
   pub configuration-code : Clear policy-refusals → givenConfiguration (o .users) (o .roles) (o .rows) .code ≡ openCode o
@@ -79,12 +93,12 @@ module _ (o : Opening) where
   configuration-given e = rw e
 
   -- what an opening gives, by its number
-  pub opening-refused : (k : ℕ) → k ≢ 0 → openCode o ≡ k → record { code = k; monitor = blank } ≡ opening o
+  pub opening-refused : (c : Code) → c ≡ codeIn (openCode o) → openCode o ≢ 0 → record { code = c; monitor = blank } ≡ opening o
   unfolding opened
-  opening-refused k ne e = rw (e, ne-eqb k 0 ne)
+  opening-refused c e ne = rw (e, ne-eqb (openCode o) 0 ne)
 
-  pub opening-accepted : openCode o ≡ 0 → record { code = 0; monitor = fresh o } ≡ opening o
-  unfolding opened
+  pub opening-accepted : openCode o ≡ 0 → record { code = Plain 0; monitor = fresh o } ≡ opening o
+  unfolding opened codeAt
   opening-accepted e = rw e
 
 pub opened-is-fresh : OpenedIsFresh

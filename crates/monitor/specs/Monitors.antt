@@ -7,9 +7,10 @@ use Rattle.soda.specs.Terms.{Term}
 use Rattle.policy.specs.Codes.{WORKSPACE, MONITOR}
 use Rattle.policy.specs.Refusals.{_gives_, code}
 use Rattle.policy.specs.Words.{decode, termOf}
+use Rattle.policy.specs.Faults.{codeAt}
 use Rattle.policy.specs.Reading.{refusals}
 use Rattle.monitor.specs.declared.Monitor.{Monitor}
-use Rattle.monitor.specs.declared.Answer.{Answer}
+use Rattle.monitor.specs.declared.Opened.{Opened}
 use Rattle.instance.specs.Configurations.{noConfiguration, configurationOf, rowRefusals, configurationOk}
 use Rattle.instance.specs.Instances.{noInstance, instanceOf, instanceOk}
 
@@ -47,8 +48,9 @@ fresh o = record { configuration = configurationOf (o .users) (o .roles) (o .row
 unfoldable pub opened : Opening → Monitor
 opened o = cond (eqb (openCode o) 0) (fresh o) blank
 
-abbrev pub opening : Opening → Answer
-opening o = record { code = openCode o; monitor = opened o }
+-- what it answers: the code, with the place of a policy's fault, and the monitor
+abbrev pub opening : Opening → Opened
+opening o = record { code = codeAt (o .users) (o .roles) (o .words) (openCode o); monitor = opened o }
 
 -- ── number 15: exactly 01's list ──
 abbrev pub wellFormed : Monitor → Bool

@@ -7,6 +7,7 @@ mod trials;
 
 use instance::Configuration;
 use instance::Instance;
+use policy::Code;
 
 // A monitor (document 01: sheet). It has no padding: each of its bytes is a field's.
 #[repr(C)]
@@ -15,7 +16,13 @@ pub struct Monitor {
     pub instance: Instance,
 }
 
-// What an opening or an event answers: its number, and the monitor that it leaves.
+// What an opening answers: its code, and the monitor that it leaves.
+pub struct Opened {
+    pub code: Code,
+    pub monitor: Monitor,
+}
+
+// What an event answers: its number, and the monitor that it leaves.
 #[repr(C)]
 pub struct Answer {
     pub code: u8,

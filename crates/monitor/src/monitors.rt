@@ -2,11 +2,12 @@
 ghost use mathlib.Core.Path.{_≡_};
 ghost use Rattle.monitor.specs.Monitors.{given, blank, opening, wellFormed};
 ghost use Rattle.monitor.specs.Private.{Checked, Admits};
-use super::Answer;
 use super::Monitor;
+use super::Opened;
 use instance::Check;
 use instance::Configuration;
 use instance::Instance;
+use policy::Code;
 use policy::PolicyRead;
 use policy::codes;
 
@@ -23,8 +24,8 @@ impl Monitor {
         instance: Instance::BLANK,
     };
 
-    // Opens a monitor under a policy: 0 and the monitor, or a number and the blank one.
-    pub fn open(users: u8, roles: u8, words: &[u32], rows: &[u16]) -> Answer
+    // Opens a monitor under a policy: 0 and the monitor, or another code and the blank one.
+    pub fn open(users: u8, roles: u8, words: &[u32], rows: &[u16]) -> Opened
         ensures { λ r. ⌜ r ≡ opening (given users roles (now (words .entry)) (now (rows .entry))) ⌝ }
     {
         let read = policy::read(users, roles, words);
@@ -33,17 +34,17 @@ impl Monitor {
             units: _,
         } = read
         else {
-            return refused(policy::number_of(read));
+            return refused(policy::code_of(read));
         };
         let configured = Configuration::open(users, roles, rows);
         let code = configured.code;
         if code != codes::ACCEPTED {
-            return refused(code);
+            return refused(Code::Plain(code));
         }
         let configuration = configured.configuration;
         let instance = Instance::under(&words[..count]);
-        Answer {
-            code,
+        Opened {
+            code: Code::Plain(code),
             monitor: Monitor {
                 configuration,
                 instance,
@@ -87,11 +88,11 @@ impl Monitor {
     }
 }
 
-// A refused opening: its number and the blank monitor.
-fn refused(code: u8) -> Answer
+// A refused opening: its code and the blank monitor.
+fn refused(code: Code) -> Opened
     ensures { λ r. ⌜ r ≡ record { code = code; monitor = blank } ⌝ }
 {
-    Answer {
+    Opened {
         code,
         monitor: Monitor::BLANK,
     }

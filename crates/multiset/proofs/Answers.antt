@@ -1,9 +1,9 @@
 -- The multiset test's refusals in order, and its answers; the workspace can be filled for a multiset's actions.
-use mathlib.Core.Path.{_≡_, refl, ap, _∙_}
+use mathlib.Core.Path.{_≡_, refl, sym, ap, _∙_}
 use mathlib.Core.Logic.{_≢_}
 use mathlib.Core.Bool.{true, false, So, not}
 use mathlib.Core.List.{List, [], _∷_, _++_, map}
-use Prim.Native.Nat.{ℕ, _≤_}
+use Prim.Native.Nat.{ℕ, _≤_, _<_}
 use native.Mathlib.Omega.{arith}
 use lib.Dec.{ltb}
 use lib.ListN.{length, drop, length-map}
@@ -12,17 +12,22 @@ use Rattle.soda.specs.Lists.{all}
 use Rattle.soda.specs.Tables.{satisfied}
 use Rattle.soda.proofs.Splits.{all-map}
 use Rattle.soda.specs.declared.Action.{Action}
-use Rattle.policy.specs.Codes.{MALFORMED, FULL}
+use Rattle.policy.specs.Codes.{UNIT, MALFORMED, FULL}
+use Rattle.policy.specs.Faults.{codeAt}
+use Rattle.policy.specs.declared.Code.{Code}
+use Rattle.policy.specs.declared.Code.the-variants.{Plain}
 use Rattle.policy.specs.Refusals.{_gives_, code, Refusals}
 use Rattle.policy.proofs.Refusals.{clear, code-front, code-behind}
 use Rattle.policy.proofs.Scanning.{counts-most}
+use Rattle.policy.proofs.Places.{others-have-none}
 use Rattle.workspace.specs.Workspace.{filled}
 use Rattle.workspace.proofs.Fillable.{policy-is-filled}
 use Rattle.instance.specs.Configurations.{isZero}
 use Rattle.monitor.specs.Monitors.{Opening, policy, openRefusals, openCode}
 use Rattle.instance.proofs.Formed.{one-each}
 use Rattle.monitor.proofs.Formed.{opened-rows-ok, opened-is-policy}
-use Rattle.multiset.specs.MultisetTest.{verdictNumber, verdictLetter, total, listed, notedBy, testRefusals, testCode, testOf, Numbered}
+use Rattle.monitor.proofs.Opening.{codeIn}
+use Rattle.multiset.specs.MultisetTest.{verdictCode, verdictLetter, total, listed, notedBy, testRefusals, testCode, testOf, Numbered}
 use Rattle.multiset.specs.Private.{Counted, used, Holds, Fillable}
 use Rattle.multiset.specs.declared.Actions.{Actions}
 use Rattle.multiset.specs.declared.Verdict.{Verdict}
@@ -77,11 +82,15 @@ module _ (o : Opening) (counts : List ℕ) where
 
     -- ── what the test answers ──
     abbrev pub Answered : Verdict → List ℕ → Type 0
-    Answered r after = (record { code = verdictNumber r; letter = verdictLetter r } ≡ testOf o counts (length before)) × Numbered o counts before after
+    Answered r after = (record { code = verdictCode r; letter = verdictLetter r } ≡ testOf o counts (length before)) × Numbered o counts before after
 
-    pub refused-test : (k : ℕ) → k ≢ 0 → testCode o counts (length before) ≡ k → Answered (Refused k) before
+    pub refused-test : (c : Code) (k : ℕ) → k ≢ 0 → c ≡ codeIn o k → testCode o counts (length before) ≡ k → Answered (Refused c) before
     unfolding testOf
-    refused-test k ne e = (rw (e, ne-eqb k 0 ne), record { order = listed 0 counts; same = refl; workspace = rw (e, ne-eqb k 0 ne) })
+    refused-test c k ne d e = (rw (e, d, ne-eqb k 0 ne), record { order = listed 0 counts; same = refl; workspace = rw (e, ne-eqb k 0 ne) })
+
+    -- a number that is not the policy author's
+    pub refused-plain : (k : ℕ) → UNIT < k → testCode o counts (length before) ≡ k → Answered (Refused (Plain k)) before
+    refused-plain k h e = refused-test (Plain k) k (λ z. omega arith) (sym (others-have-none (o .users) (o .roles) (o .words) k h)) e
 
     module _ (after : List ℕ) (e : testCode o counts (length before) ≡ 0)
         (f : after ≡ filled (policy o) (map (notedBy o) (listed 0 counts)) before) where
@@ -89,9 +98,9 @@ module _ (o : Opening) (counts : List ℕ) where
       numbered-test = record { order = listed 0 counts; same = refl; workspace = rw e f }
 
       pub yes-test : satisfied (policy o) 0 (map (notedBy o) (listed 0 counts)) ≡ true → Answered Yes after
-      unfolding testOf
+      unfolding testOf codeAt
       yes-test s = (rw (e, s), numbered-test)
 
       pub no-test : satisfied (policy o) 0 (map (notedBy o) (listed 0 counts)) ≡ false → Answered No after
-      unfolding testOf
+      unfolding testOf codeAt
       no-test s = (rw (e, s), numbered-test)

@@ -10,8 +10,11 @@ use Rattle.soda.specs.Roles.{roles}
 use Rattle.soda.specs.Tables.{satisfied}
 use Rattle.soda.specs.Multisets.{multiset}
 use Rattle.soda.specs.declared.Action.{Action}
-use Rattle.policy.specs.Codes.{MALFORMED, FULL, WORKSPACE}
+use Rattle.policy.specs.Codes.{ACCEPTED, MALFORMED, FULL, WORKSPACE}
 use Rattle.policy.specs.Refusals.{_gives_, code}
+use Rattle.policy.specs.Faults.{codeAt}
+use Rattle.policy.specs.declared.Code.{Code}
+use Rattle.policy.specs.declared.Code.the-variants.{Plain}
 use Rattle.workspace.specs.Workspace.{filled}
 use Rattle.instance.specs.Configurations.{isZero}
 use Rattle.instance.specs.Instances.{noted}
@@ -19,22 +22,22 @@ use Rattle.monitor.specs.Monitors.{Opening, policy, openRefusals}
 use Rattle.multiset.specs.declared.Verdict.{Verdict}
 use Rattle.multiset.specs.declared.Verdict.the-variants.{Yes, No, Refused}
 
--- 01's number for each case, and a letter for the answer, `y` or `n`; a refusal has none
+-- the code of each case, and a letter for the answer, `y` or `n`; a refusal has none
 abbrev pub letterY : ℕ
 letterY = 121
 
 abbrev pub letterN : ℕ
 letterN = 110
 
-abbrev pub verdictNumber : Verdict → ℕ
-verdictNumber Yes = 0
-verdictNumber No = 0
-verdictNumber (Refused k) = k
+abbrev pub verdictCode : Verdict → Code
+verdictCode Yes = Plain ACCEPTED
+verdictCode No = Plain ACCEPTED
+verdictCode (Refused c) = c
 
 abbrev pub verdictLetter : Verdict → ℕ
 verdictLetter Yes = letterY
 verdictLetter No = letterN
-verdictLetter (Refused k) = 0
+verdictLetter (Refused c) = 0
 
 -- how many actions in all
 abbrev pub total : List ℕ → ℕ
@@ -59,14 +62,14 @@ testRefusals o counts n =
 abbrev pub testCode : Opening → List ℕ → ℕ → ℕ
 testCode o counts n = code (testRefusals o counts n)
 
--- the number and the letter: yes exactly when the actions satisfy the policy; their order plays no part (`TestIsMultiset` of claims)
+-- the code, with the place of a policy's fault, and the letter: yes exactly when the actions satisfy the policy; their order plays no part (`TestIsMultiset` of claims)
 pub record TestOutcome : Type 0 where
-  pub code : ℕ
+  pub code : Code
   pub letter : ℕ
 
 unfoldable pub testOf : Opening → List ℕ → ℕ → TestOutcome
 testOf o counts n = record {
-  code = testCode o counts n;
+  code = codeAt (o .users) (o .roles) (o .words) (testCode o counts n);
   letter = cond (eqb (testCode o counts n) 0) (cond (satisfied (policy o) 0 (map (notedBy o) (listed 0 counts))) letterY letterN) 0;
 }
 

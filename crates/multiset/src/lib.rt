@@ -6,9 +6,10 @@ ghost use lib.ListN.{length, drop, replicate};
 ghost use Rattle.soda.specs.Roles.{roles};
 ghost use Rattle.instance.specs.Instances.{noted};
 ghost use Rattle.monitor.specs.Monitors.{given};
-ghost use Rattle.multiset.specs.MultisetTest.{verdictNumber, verdictLetter, total, listed, testOf, Numbered};
+ghost use Rattle.multiset.specs.MultisetTest.{verdictCode, verdictLetter, total, listed, testOf, Numbered};
 ghost use Rattle.multiset.specs.Private.{Counted, Holds, Added, Fillable, Evaluated};
 use monitor::Monitor;
+use policy::Code;
 use policy::codes;
 use soda::Action;
 
@@ -16,7 +17,7 @@ use soda::Action;
 pub enum Verdict {
     Yes,
     No,
-    Refused(u8),
+    Refused(Code),
 }
 
 // Actions in order, and how many they are.
@@ -98,20 +99,20 @@ pub fn satisfies(
     counts: [u8; 16],
     workspace: &mut [u32],
 ) -> Verdict
-    ensures { λ r. ⌜ (record { code = verdictNumber r; letter = verdictLetter r } ≡ testOf (given users roles (now (words .entry)) (now (rows .entry))) counts (length (now (workspace .entry)))) × Numbered (given users roles (now (words .entry)) (now (rows .entry))) counts (now (workspace .entry)) (now (workspace .exit)) ⌝ }
+    ensures { λ r. ⌜ (record { code = verdictCode r; letter = verdictLetter r } ≡ testOf (given users roles (now (words .entry)) (now (rows .entry))) counts (length (now (workspace .entry)))) × Numbered (given users roles (now (words .entry)) (now (rows .entry))) counts (now (workspace .entry)) (now (workspace .exit)) ⌝ }
 {
     if workspace.len() < 8192 {
-        return Verdict::Refused(codes::WORKSPACE);
+        return Verdict::Refused(Code::Plain(codes::WORKSPACE));
     }
     let code = Monitor::open(users, roles, words, rows).code;
-    if code != codes::ACCEPTED {
+    if policy::number_of(code) != codes::ACCEPTED {
         return Verdict::Refused(code);
     }
     if total_from(counts, users as usize) != 0 {
-        return Verdict::Refused(codes::MALFORMED);
+        return Verdict::Refused(Code::Plain(codes::MALFORMED));
     }
     if 12 < total_from(counts, 0) {
-        return Verdict::Refused(codes::FULL);
+        return Verdict::Refused(Code::Plain(codes::FULL));
     }
     let actions = actions_of(words, rows, counts);
     if evaluate(words, actions, workspace) {

@@ -11,7 +11,9 @@ use Rattle.soda.specs.Normal.{normalForm}
 use Rattle.policy.specs.Codes.{ACCEPTED, OUTPUT}
 use Rattle.policy.specs.Refusals.{Refusals, _gives_, code}
 use Rattle.policy.specs.Words.{decode}
+use Rattle.policy.specs.Faults.{codeAt}
 use Rattle.policy.specs.Reading.{refusals}
+use Rattle.policy.specs.declared.Code.{Code}
 
 -- the words of a term's normal form
 abbrev pub normalIn : Option Term → List ℕ
@@ -27,6 +29,10 @@ normalRefusals users roles ws n = refusals users roles ws ++ ((ltb n (length ws)
 
 abbrev pub normalCode : ℕ → ℕ → List ℕ → ℕ → ℕ
 normalCode users roles ws n = code (normalRefusals users roles ws n)
+
+-- the answer: the number, with the place of a policy's fault
+abbrev pub normalAnswer : ℕ → ℕ → List ℕ → ℕ → Code
+normalAnswer users roles ws n = codeAt users roles ws (normalCode users roles ws n)
 
 -- the normal form at the output's start, the rest kept; a refusal changes nothing
 unfoldable pub normalOut : ℕ → ℕ → List ℕ → List ℕ → List ℕ

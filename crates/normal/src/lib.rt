@@ -5,8 +5,9 @@ ghost use lib.ListN.{length, drop};
 ghost use lib.Seq.{paste};
 ghost use Rattle.soda.specs.Words.{wordsLe};
 ghost use Rattle.policy.specs.Words.{kind, sides};
-ghost use Rattle.normal.specs.NormalForms.{normalCode, normalOut};
+ghost use Rattle.normal.specs.NormalForms.{normalAnswer, normalOut};
 ghost use Rattle.normal.specs.Private.{span, operandOf, Spelt, Written, Merging, Merged};
+use policy::Code;
 use policy::PolicyRead;
 use policy::codes;
 
@@ -137,17 +138,17 @@ fn normal_term(words: &[u32], out: &mut [u32]) -> usize
 }
 
 // Writes the normal form of a policy at the start of out. Any counts, any words and any output are answered.
-pub fn normal_form(users: u8, roles: u8, words: &[u32], out: &mut [u32]) -> u8
-    ensures { λ r. ⌜ r ≡ normalCode users roles (now (words .entry)) (length (now (out .entry))) ⌝ }
+pub fn normal_form(users: u8, roles: u8, words: &[u32], out: &mut [u32]) -> Code
+    ensures { λ r. ⌜ r ≡ normalAnswer users roles (now (words .entry)) (length (now (out .entry))) ⌝ }
     ensures { λ _. ⌜ now (out .exit) ≡ normalOut users roles (now (words .entry)) (now (out .entry)) ⌝ }
 {
     let answer = policy::read(users, roles, words);
     let PolicyRead::Accepted { words: n, units: _ } = answer else {
-        return policy::number_of(answer);
+        return policy::code_of(answer);
     };
     if out.len() < n {
-        return codes::OUTPUT;
+        return Code::Plain(codes::OUTPUT);
     }
     normal_term(words, out);
-    codes::ACCEPTED
+    Code::Plain(codes::ACCEPTED)
 }

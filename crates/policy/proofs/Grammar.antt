@@ -151,7 +151,7 @@ parsed (w ∷ ws) = elim (row-of (kind w)) [
   | inr r ↦ rw (r .1) tt
 ]
 
-no : {A : Type 0} {φ : Term} → _≡_ {A = Option Term} none (some φ) → A
+pub no : {A : Type 0} {φ : Term} → _≡_ {A = Option Term} none (some φ) → A
 no e = absurd (let z : _≡_ {A = ℕ} 0 1 = cc in omega arith)
 
 pub begins : (ws : List ℕ) (φ : Term) → first ws ≡ some φ → Begins ws φ (drop (size φ) ws)
@@ -176,7 +176,7 @@ decode-missing ws e = go (row ws) e
 pub decode-whole : {ws : List ℕ} {φ : Term} → Begins ws φ [] → decode ws ≡ some φ
 decode-whole b = rw (row-begins b)
 
-decode-more : {ws vs : List ℕ} {w : ℕ} {φ : Term} → Begins ws φ (w ∷ vs) → decode ws ≡ none
+pub decode-more : {ws vs : List ℕ} {w : ℕ} {φ : Term} → Begins ws φ (w ∷ vs) → decode ws ≡ none
 decode-more {vs = vs} {w = w} b = rw (row-begins b, push-cons (kindOf (kind w)) (operand w) (row vs))
 
 -- the first term is the one term when no word is left over

@@ -5,4 +5,6 @@ pub mod Grammar
 pub mod Scanning
 pub mod Encoding
 pub mod Accepted
+pub mod Faults
+pub mod Places
 pub mod Examples

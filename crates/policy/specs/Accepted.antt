@@ -11,8 +11,8 @@ use Rattle.soda.specs.Terms.{Op, Term, unit, wellFormed, size, marks}
 use Rattle.soda.specs.Words.{word, opKind, encode, fits, declared}
 use Rattle.policy.specs.Codes.{TERM, UNIT}
 use Rattle.policy.specs.Words.{kind, operand, sides, wordOk, decode}
-use Rattle.policy.specs.Reading.{countOk, lengthOk, readPolicy}
-use Rattle.policy.specs.declared.PolicyRead.the-variants.{Accepted, Refused}
+use Rattle.policy.specs.Reading.{countOk, lengthOk, readPolicy, numberOf}
+use Rattle.policy.specs.declared.PolicyRead.the-variants.{Accepted}
 
 -- ── words ──
 -- A word is its kind and its operand, which has 16 bits; an operator has two sides.
@@ -47,13 +47,13 @@ pub record InLayout (users roles : ℕ) (ws : List ℕ) : Type 0 where
 abbrev pub ThreeIsNoTerm : Type 0
 ThreeIsNoTerm =
     (users roles : ℕ) (ws : List ℕ)
-    → (readPolicy users roles ws ≡ Refused TERM) ↔ (InLayout users roles ws × ((φ : Term) → WordsOf φ ws → ⊥))
+    → (numberOf (readPolicy users roles ws) ≡ TERM) ↔ (InLayout users roles ws × ((φ : Term) → WordsOf φ ws → ⊥))
 
--- .. and 4 exactly when they are the words of a term that is not well formed.
+-- .. and 4 exactly when they are the words of a term that is not well formed. `Places` says which word either points at.
 abbrev pub FourIsNotFormed : Type 0
 FourIsNotFormed =
     (users roles : ℕ) (ws : List ℕ)
-    → (readPolicy users roles ws ≡ Refused UNIT) ↔ ((φ : Term) × InLayout users roles ws × WordsOf φ ws × (wellFormed φ ≡ false))
+    → (numberOf (readPolicy users roles ws) ≡ UNIT) ↔ ((φ : Term) × InLayout users roles ws × WordsOf φ ws × (wellFormed φ ≡ false))
 
 -- ── accepted policies ──
 -- The words are those of φ, a well-formed term with declared roles and users, no longer than a policy.

@@ -1,13 +1,15 @@
--- What the crate's own functions answer: tests of one word, and the first term of some words.
-use mathlib.Core.Bool.{Bool, true, false, _&&_, cond}
+-- What the crate's own functions answer: tests of words, places, and the first term of some words.
+use mathlib.Core.Bool.{Bool, true, false, not, _&&_, _||_, cond}
 use mathlib.Core.List.{List, [], _∷_}
 use mathlib.Core.Option.{Option, some, none}
-use Prim.Native.Nat.{ℕ, _+_, _-_, _*_, _%_, _^_}
+use Prim.Native.Nat.{ℕ, _+_, _-_, _*_, _/_, _%_, _^_}
 use lib.Bits.{bitOr}
 use lib.Dec.{leb, ltb, eqb}
+use Rattle.soda.specs.Bits.{bit}
 use Rattle.soda.specs.Terms.{Term, unit, wellFormed, size, marks}
 use Rattle.policy.specs.Kinds.{EVERYONE, SET, NOT, TOGETHER}
 use Rattle.policy.specs.Masks.{putOf}
+use Rattle.policy.specs.Words.{kind, sides}
 use Rattle.policy.specs.declared.reader.First.{First}
 
 -- a kind without sides
@@ -21,6 +23,15 @@ leastWords =
 
 abbrev pub roomsOf : ℕ → ℕ → List ℕ
 roomsOf users roles = 0 ∷ 1 ∷ roles ∷ (2 ^ users - 1) ∷ 1 ∷ 1 ∷ 1 ∷ 1 ∷ 1 ∷ 1 ∷ []
+
+-- the place behind the first term, which has so many words; where there is none, behind all n words
+abbrev pub behindFirst : ℕ → ℕ → ℕ
+behindFirst first n = cond (eqb first 0) n first
+
+-- for each word, whether it has another number of sides than one, or its side, at the next word, is a unit term by the mask of those
+abbrev pub overUnits : ℕ → List ℕ → List Bool
+overUnits units [] = []
+overUnits units (w ∷ ws) = (not (eqb (sides (kind w)) 1) || bit 0 (units / 2 ^ 1)) ∷ overUnits (units / 2 ^ 1) ws
 
 -- what is read of the first term of some words; nothing for none
 abbrev pub firstIn : Option Term → First

@@ -10,6 +10,9 @@ use Rattle.soda.specs.Terms.{Term, unit, wellFormed, marks}
 use Rattle.policy.specs.Codes.{ACCEPTED, WORD-COUNT, WORD, TERM, UNIT, COUNTS}
 use Rattle.policy.specs.Refusals.{Refusals, _gives_, code}
 use Rattle.policy.specs.Words.{wordOk, decode}
+use Rattle.policy.specs.Faults.{codeAt, codeNumber}
+use Rattle.policy.specs.declared.Code.{Code}
+use Rattle.policy.specs.declared.Code.the-variants.{Plain}
 use Rattle.policy.specs.declared.PolicyRead.{PolicyRead}
 use Rattle.policy.specs.declared.PolicyRead.the-variants.{Accepted, Refused}
 
@@ -49,14 +52,17 @@ abbrev pub unitsOf : Option Term → ℕ
 unitsOf none = 0
 unitsOf (some φ) = marks unit φ
 
--- the answer: the word count and that mask, or a number with nothing else
-abbrev pub answer : ℕ → List ℕ → PolicyRead
-answer k ws = cond (eqb k ACCEPTED) (Accepted (length ws) (unitsOf (decode ws))) (Refused k)
-
--- the number that an answer gives
-abbrev pub numberOf : PolicyRead → ℕ
-numberOf (Accepted n units) = ACCEPTED
-numberOf (Refused k) = k
+-- the answer: the word count and that mask, or a code with nothing else
+abbrev pub answer : ℕ → ℕ → List ℕ → ℕ → PolicyRead
+answer users roles ws k = cond (eqb k ACCEPTED) (Accepted (length ws) (unitsOf (decode ws))) (Refused (codeAt users roles ws k))
 
 unfoldable pub readPolicy : ℕ → ℕ → List ℕ → PolicyRead
-readPolicy users roles ws = answer (code (refusals users roles ws)) ws
+readPolicy users roles ws = answer users roles ws (code (refusals users roles ws))
+
+-- the code of an answer, and its number
+abbrev pub codeRead : PolicyRead → Code
+codeRead (Accepted n units) = Plain ACCEPTED
+codeRead (Refused c) = c
+
+abbrev pub numberOf : PolicyRead → ℕ
+numberOf a = codeNumber (codeRead a)

@@ -2,7 +2,7 @@
 ghost use mathlib.Core.Path.{_≡_};
 ghost use mathlib.Core.Bool.{_&&_};
 ghost use Prim.Native.Nat.{_≤_};
-ghost use Rattle.soda.specs.Lists.{all};
+ghost use Rattle.soda.specs.Lists.{firstFailing};
 ghost use Rattle.policy.specs.Words.{kind, operand, sides, wordOk};
 ghost use Rattle.policy.specs.Masks.{putOf};
 ghost use Rattle.policy.specs.Reading.{countOk, lengthOk, layoutOk};
@@ -85,26 +85,26 @@ fn rooms(users: u8, roles: u8) -> [u32; 10]
     [0, 1, roles as u32, (1u32 << users) - 1, 1, 1, 1, 1, 1, 1]
 }
 
-// Whether every word is in the layout and names only what is declared.
-pub(crate) fn words_ok(users: u8, roles: u8, words: &[u32]) -> bool
+// The place of the first word that is not in the layout or names something that is not declared; the word count if there is none.
+pub(crate) fn bad_word(users: u8, roles: u8, words: &[u32]) -> usize
     requires { ⌜ users ≤ 16 ⌝ }
-    ensures { λ r. ⌜ r ≡ all (wordOk users roles) (now (words .entry)) ⌝ }
+    ensures { λ r. ⌜ r ≡ firstFailing (wordOk users roles) (now (words .entry)) ⌝ }
 {
     let least = LEAST;
     let room = rooms(users, roles);
-    let mut i = words.len();
-    while 0 < i {
-        i -= 1;
+    let mut i = 0;
+    while i < words.len() {
         let w = words[i];
         let k = kind_of(w);
         if kinds::APART < k {
-            return false;
+            return i;
         }
         if room[k] <= num::wrapping_sub_u32(w, least[k]) {
-            return false;
+            return i;
         }
+        i += 1;
     }
-    true
+    i
 }
 
 // Whether none of 5, 1 and 2 applies.
@@ -117,5 +117,5 @@ pub fn in_layout(users: u8, roles: u8, words: &[u32]) -> bool
     if !length_ok(words.len()) {
         return false;
     }
-    words_ok(users, roles, words)
+    bad_word(users, roles, words) == words.len()
 }

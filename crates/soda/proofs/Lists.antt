@@ -1,15 +1,69 @@
--- Laws of the part of a list from a place on, of a range of numbers, of a list copied into an array, and of the length of a list.
+-- Laws of the first element that fails a test, of the part of a list from a place on, of a range of numbers, of a list copied into an array, and of the length of a list.
 use mathlib.Core.Path.{_≡_, refl, sym, _∙_, ap}
-use mathlib.Core.List.{List, _++_, map}
-use Prim.Native.Nat.{ℕ, zero, suc, _+_, _-_, _<_}
+use mathlib.Core.Bool.{Bool, true, false, So, cond}
+use mathlib.Core.List.{List, [], _∷_, _++_, map}
+use Prim.Native.Nat.{ℕ, zero, suc, _+_, _-_, _≤_, _<_}
 use native.Mathlib.Nat.{le-of-lt}
 use native.Mathlib.Omega.{arith}
 use native.Mathlib.Numerals.{add-one}
+use lib.Dec.{eqb·suc-suc, eqb·zero-suc}
 use lib.ListN.{length, getD, set, take, drop, replicate, length-drop, length-map}
-use lib.Seq.{ext-getD, take-all, take-suc, take-length, length-take-le, set-at, append-snoc}
-use Rattle.soda.specs.Lists.{range, padded}
-use Rattle.soda.specs.Laws.{FromDrop, FromLength}
+use lib.Seq.{drop-cons, ext-getD, take-all, take-suc, take-length, length-take-le, set-at, append-snoc}
+use Rattle.soda.specs.Lists.{all, firstFailing, range, padded}
+use Rattle.soda.specs.Laws.{FirstIsFirst, NoneFails, FromDrop, FromLength}
+use Rattle.soda.proofs.Bools.{by-test, and-split, and-join}
 
+-- ── the first element that fails a test ──
+pub failing-most : {A : Type 0} (f : A → Bool) (l : List A) → firstFailing f l ≤ length l
+failing-most f [] = omega arith
+failing-most f (x ∷ l) = by-test (f x) (λ e. rw e (omega (arith, failing-most f l))) λ e. rw e (omega arith)
+
+pub first-fails : {A : Type 0} (f : A → Bool) (d : A) (l : List A) (p : ℕ) → p < length l → So (all f (take p l)) → f (getD l p d) ≡ false
+    → firstFailing f l ≡ p
+first-fails f d [] p h a e = absurd (omega arith)
+first-fails f d (x ∷ l) zero h a e = rw e
+first-fails f d (x ∷ l) (suc p) h a e =
+    let s = and-split (f x) (all f (take p l)) a in
+    rw (s .0) (ap suc (first-fails f d l p (omega arith) (s .1) e))
+
+fails-first : {A : Type 0} (f : A → Bool) (d : A) (l : List A) → firstFailing f l < length l
+    → So (all f (take (firstFailing f l) l)) × (f (getD l (firstFailing f l) d) ≡ false)
+fails-first f d [] h = absurd (omega arith)
+fails-first f d (x ∷ l) h = by-test (f x)
+    (λ e. let r = fails-first f d l (let z : suc (firstFailing f l) < length (x ∷ l) = rw e at h in omega arith) in
+    rw e (and-join (f x) (all f (take (firstFailing f l) l)) e (r .0), r .1))
+    λ e. rw e (refl, e)
+
+pub first-is-first : FirstIsFirst
+first-is-first A f d l p h = (λ e. rw e at (fails-first f d l (rw e h)), λ a. first-fails f d l p h (a .0) (a .1))
+
+pub none-fails : NoneFails
+none-fails A f [] = refl
+none-fails A f (x ∷ l) = by-test (f x) (λ e. rw (e, eqb·suc-suc) (none-fails A f l)) λ e. rw (e, eqb·zero-suc)
+
+-- from place i on: the element there fails, or one behind it
+module _ {A : Type 0} (f : A → Bool) (d : A) (l : List A) (i : ℕ) (h : i < length l) where
+  pub failing-here : f (getD l i d) ≡ false → firstFailing f (drop i l) ≡ 0
+  failing-here e = rw (drop-cons l i d h, e)
+
+  pub failing-next : f (getD l i d) ≡ true → firstFailing f (drop i l) ≡ suc (firstFailing f (drop (suc i) l))
+  failing-next e = ap (firstFailing f) (drop-cons l i d h) ∙ rw e
+
+-- what stands behind it plays no part
+pub failing-stays : {A : Type 0} (f : A → Bool) (l : List A) (x : A) (m n : List A)
+    → firstFailing f (l ++ (x ∷ m)) ≡ length l → firstFailing f (l ++ (x ∷ n)) ≡ length l
+failing-stays f [] x m n e = by-test (f x) (λ t. absurd (let z : suc (firstFailing f m) ≡ 0 = rw t at e in omega arith)) λ t. rw t
+failing-stays f (y ∷ l) x m n e = by-test (f y)
+    (λ t. let z : suc (firstFailing f (l ++ (x ∷ m))) ≡ suc (length l) = rw t at e in
+    rw t (ap suc (failing-stays f l x m n (omega arith))))
+    λ t. absurd (let z : 0 ≡ suc (length l) = rw t at e in omega arith)
+
+-- a test of what a map gives
+pub failing-map : {A B : Type 0} (g : A → B) (f : B → Bool) (l : List A) → firstFailing f (map g l) ≡ firstFailing (λ x. f (g x)) l
+failing-map g f [] = refl
+failing-map g f (x ∷ l) = ap (λ (n : ℕ). cond (f (g x)) (suc n) 0) (failing-map g f l)
+
+-- ── parts and ranges ──
 pub from-drop : FromDrop
 from-drop k l = take-all (length l - k) (drop k l) (omega (arith, length-drop k l))
 

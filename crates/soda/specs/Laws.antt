@@ -1,11 +1,12 @@
--- What is proved of digits, of terms and their words, of the table, and of the actions of a trace. Statements only.
+-- What is proved of lists, of digits, of terms and their words, of the table, and of the actions of a trace. Statements only.
 use mathlib.Core.Path.{_≡_}
+use mathlib.Core.Logic.{_↔_}
 use mathlib.Core.Bool.{Bool, false, So, not, _&&_, _||_}
 use mathlib.Core.List.{List, [], _∷_, _++_}
 use Prim.Native.Nat.{ℕ, _-_, _^_, _≤_, _<_}
 use lib.Dec.{eqb}
-use lib.ListN.{length, getD, drop}
-use Rattle.soda.specs.Lists.{from}
+use lib.ListN.{length, getD, take, drop}
+use Rattle.soda.specs.Lists.{all, firstFailing, from}
 use Rattle.soda.specs.Bits.{bit, setBit, clearBit, number}
 use Rattle.soda.specs.Terms.{Op, Term, sameOp, size, subterms, termAt, marks}
 use Rattle.soda.specs.Words.{opKind, encode, fits, wordsLe, termLe}
@@ -13,6 +14,17 @@ use Rattle.soda.specs.Roles.{UA}
 use Rattle.soda.specs.Tables.{acts, bitTable}
 use Rattle.soda.specs.Traces.{Trace, upd, executed}
 use Rattle.soda.specs.declared.Action.{Action}
+
+-- ── the first element that fails a test ──
+-- Those before it pass, and it fails ..
+abbrev pub FirstIsFirst : Type 1
+FirstIsFirst =
+    (A : Type 0) (f : A → Bool) (d : A) (l : List A) (p : ℕ)
+    → p < length l → (firstFailing f l ≡ p) ↔ (So (all f (take p l)) × (f (getD l p d) ≡ false))
+
+-- .. and where there is none, all pass.
+abbrev pub NoneFails : Type 1
+NoneFails = (A : Type 0) (f : A → Bool) (l : List A) → all f l ≡ eqb (firstFailing f l) (length l)
 
 -- ── digits, and the part of a list from a place on ──
 -- A digit set or cleared: that digit alone changes.

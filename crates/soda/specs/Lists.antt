@@ -14,6 +14,11 @@ module _ {A : Type 0} where
   all f [] = true
   all f (x ∷ l) = f x && all f l
 
+  -- the place of the first element that fails the test, counted from 0; the length if none does
+  abbrev pub firstFailing : (A → Bool) → List A → ℕ
+  firstFailing f [] = 0
+  firstFailing f (x ∷ l) = cond (f x) (suc (firstFailing f l)) 0
+
   abbrev pub toLeft : A → List A × List A → List A × List A
   toLeft x p = (x ∷ p .0, p .1)
 

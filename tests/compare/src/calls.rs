@@ -7,8 +7,14 @@ mod multisets;
 mod normal_forms;
 mod openings;
 
+use crate::faults::{Faults, Policy};
+use crate::lent::LentByte;
 use crate::library;
 use crate::report::{Group, Report, Seen};
+
+/// Every so many turns a whole run is compared. It has no divisor in common with the number of kinds
+/// of random files, so that each kind has its turn.
+const RUN_EVERY: usize = 7;
 
 /// One exported call: what was compared, and which answers occurred.
 pub struct Call {
@@ -29,6 +35,32 @@ impl Call {
     }
 }
 
+/// A call that reads a policy, and is lent a byte for the place of a fault (02, E2).
+pub struct Reader {
+    call: Call,
+    faults: Faults,
+    asked: usize,
+}
+
+impl Reader {
+    /// A call whose answers are these; each must occur, and each kind of fault.
+    fn new(name: &str, answers: &'static [u8]) -> Reader {
+        Reader { call: Call::new(name, answers), faults: Faults::new(name, true), asked: 0 }
+    }
+
+    /// The byte for the next call.
+    fn lent_byte(&mut self) -> LentByte {
+        self.asked += 1;
+        LentByte::new(self.asked)
+    }
+
+    /// Counts a comparison, the product's answer and the policy.
+    fn check(&mut self, policy: Policy, answer: u8, same: bool, describe: impl FnOnce() -> String) {
+        self.faults.count(policy, answer.into());
+        self.call.check(answer, same, describe);
+    }
+}
+
 /// An answer of the reference as the exported calls give it: a letter by its byte, or a number.
 fn byte<T: Into<u8>>(answer: Result<T, u32>) -> u8 {
     match answer {
@@ -40,17 +72,21 @@ fn byte<T: Into<u8>>(answer: Result<T, u32>) -> u8 {
 /// Compares each call on its edges and on so many random inputs.
 pub fn compare(seed: u64, count: usize) -> Result<Report, String> {
     let library = library::chosen()?;
-    let mut calls = vec![openings::compare(&library, seed, count)];
+    let (mut calls, mut kinds) = (Vec::new(), Vec::new());
+    for compare in [openings::compare, multisets::compare, normal_forms::compare] {
+        let Reader { call, faults, .. } = compare(&library, seed, count);
+        calls.push(call);
+        kinds.push(faults.seen());
+    }
     calls.extend(events::compare(&library, seed, count));
-    let (enabled, kinds) = enabled::compare(&library, seed, count);
+    let (enabled, masks) = enabled::compare(&library, seed, count);
     calls.push(enabled);
-    calls.push(multisets::compare(&library, seed, count));
-    calls.push(normal_forms::compare(&library, seed, count));
+    kinds.push(masks);
     let mut report = Report::default();
     for call in calls {
         report.groups.push(call.group);
         report.seen.push(call.seen);
     }
-    report.seen.push(kinds);
+    report.seen.extend(kinds);
     Ok(report)
 }

@@ -5,9 +5,10 @@ use std::io::{ErrorKind, Write};
 use std::path::PathBuf;
 use std::process::{Command, ExitStatus, Stdio};
 
-use reference::casefile;
+use reference::casefile::{self, read_case, Case};
 use reference::generate::{cases, edges, NamedFile, Random};
 
+use crate::faults::{Faults, Policy};
 use crate::report::{Group, Report, Seen};
 
 /// The numbers that refuse a case file or its opening.
@@ -29,6 +30,7 @@ pub struct Judge {
     seed: u64,
     groups: BTreeMap<String, Group>,
     refusals: Seen,
+    faults: Faults,
     events: Seen,
     letters: Seen,
 }
@@ -53,6 +55,7 @@ impl Judge {
             seed,
             groups: BTreeMap::new(),
             refusals: Seen::new("refused case files", wanted(REFUSALS)),
+            faults: Faults::new("case files", every_number),
             events: Seen::new("events", wanted(EVENTS)),
             letters: Seen::new("statuses", wanted(LETTERS)),
         })
@@ -67,7 +70,7 @@ impl Judge {
             Err(_) => false,
         };
         if let Ok(ran) = &ran {
-            self.count(&ran.output);
+            self.count(bytes, &ran.output);
         }
         let seed = self.seed;
         let entry = self.groups.entry(group.to_string()).or_insert_with(|| Group::new(group));
@@ -101,12 +104,14 @@ impl Judge {
         Ok(Ran { output: ended.stdout, status: ended.status })
     }
 
-    /// Counts the numbers and letters of an output.
-    fn count(&mut self, output: &[u8]) {
+    /// Counts the numbers and letters of the output for a file.
+    fn count(&mut self, bytes: &[u8], output: &[u8]) {
         for line in String::from_utf8_lossy(output).lines() {
             let fields: Vec<&str> = line.split(' ').collect();
             match fields[..] {
-                ["refused", number] => number.parse().iter().for_each(|n| self.refusals.count(*n)),
+                ["refused", number] | ["refused", number, "at", _] => {
+                    number.parse().iter().for_each(|n| self.count_refusal(bytes, *n));
+                }
                 [_, number, letter] => {
                     number.parse().iter().for_each(|n| self.events.count(*n));
                     letter.bytes().for_each(|letter| self.letters.count(letter));
@@ -116,11 +121,20 @@ impl Judge {
         }
     }
 
+    /// Counts a refusal and, where the file could be read, its policy.
+    fn count_refusal(&mut self, bytes: &[u8], number: u8) {
+        self.refusals.count(number);
+        if let Ok(Case { users, roles, policy, .. }) = read_case(bytes) {
+            let (users, roles) = (users.into(), roles.into());
+            self.faults.count(Policy { users, roles, words: &policy }, number.into());
+        }
+    }
+
     /// What was compared.
     pub fn report(self) -> Report {
         Report {
             groups: self.groups.into_values().collect(),
-            seen: vec![self.refusals, self.events, self.letters],
+            seen: vec![self.refusals, self.faults.seen(), self.events, self.letters],
         }
     }
 }

@@ -1,4 +1,6 @@
-//! Words that are lent to a call.
+//! What is lent to a call.
+
+use std::hint::black_box;
 
 use reference::generate::calls::marked;
 
@@ -32,6 +34,43 @@ impl Lent {
     }
 }
 
+/// What a byte for a place holds before a call, each in turn.
+const MARKS: [u8; 5] = [0xa5, 0, 255, 31, 1];
+
+/// A byte for the place of a policy's fault, between two that belong to nobody.
+#[derive(Clone, Debug)]
+pub struct LentByte {
+    bytes: [u8; 3],
+    mark: u8,
+}
+
+impl LentByte {
+    /// The byte for the call with this number.
+    pub fn new(number: usize) -> LentByte {
+        let mark = MARKS[number % MARKS.len()];
+        LentByte { bytes: [mark; 3], mark }
+    }
+
+    /// The byte that is lent.
+    pub fn byte(&mut self) -> &mut u8 {
+        &mut self.bytes[1]
+    }
+
+    /// Whether it holds this place; where there is none, what it held before.
+    pub fn holds(&mut self, place: Option<usize>) -> bool {
+        // All three are looked at anew, so that a write beside the lent one would be seen.
+        black_box(&mut self.bytes);
+        let expected = place.map_or(self.mark, |place| place as u8);
+        self.bytes == [self.mark, expected, self.mark]
+    }
+
+    /// What it was to hold, and what it and its neighbours hold.
+    pub fn against(&self, place: Option<usize>) -> String {
+        let LentByte { bytes, mark } = self;
+        format!("  expected place {place:?} in a byte that held {mark}, got {bytes:?}")
+    }
+}
+
 #[cfg(test)]
 mod tests {
     use super::*;
@@ -43,5 +82,17 @@ mod tests {
         one.words[4] = 0;
         assert_eq!(one.first_difference(&other), Some((4, 0, 0xa500_0004)));
         assert_ne!(one, other);
+    }
+
+    #[test]
+    fn a_byte_holds_its_place_or_what_it_held() {
+        for number in 0..MARKS.len() {
+            let mut lent = LentByte::new(number);
+            assert!(lent.holds(None) && !lent.holds(Some(7)));
+            *lent.byte() = 7;
+            assert!(!lent.holds(None) && lent.holds(Some(7)));
+            lent.bytes[2] ^= 1;
+            assert!(!lent.holds(Some(7)));
+        }
     }
 }

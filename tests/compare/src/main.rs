@@ -11,6 +11,7 @@
 //! groups of checks: `N passed, M failed`.
 
 mod calls;
+mod faults;
 mod fuzz;
 mod judge;
 mod lent;

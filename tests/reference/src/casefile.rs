@@ -2,6 +2,7 @@
 
 use crate::code::{self, Code};
 use crate::monitor::{Monitor, Taken};
+use crate::place::place_of;
 
 /// The most bytes that a case file may have.
 pub const MOST_BYTES: usize = 4096;
@@ -151,9 +152,21 @@ pub fn run(case: &Case) -> Result<Report, Code> {
 
 /// Exactly what the judge program prints for a case file.
 pub fn judge(bytes: &[u8]) -> String {
-    match read_case(bytes).and_then(|case| run(&case)) {
+    let case = match read_case(bytes) {
+        Ok(case) => case,
+        Err(refusal) => return format!("refused {refusal}\n"),
+    };
+    match run(&case) {
         Ok(report) => report.text(),
-        Err(refusal) => format!("refused {refusal}\n"),
+        Err(refusal) => refused(&case, refusal),
+    }
+}
+
+/// What it prints for a refused opening: the number, and the place of a policy's fault (02, E2).
+fn refused(case: &Case, refusal: Code) -> String {
+    match place_of(refusal, case.users.into(), case.roles.into(), &case.policy) {
+        Some(place) => format!("refused {refusal} at {place}\n"),
+        None => format!("refused {refusal}\n"),
     }
 }
 
@@ -193,16 +206,26 @@ mod tests {
 
     #[test]
     fn empty_parts_are_fine() {
-        assert_eq!(judge(&join_parts(&[], &[1, 1, 1, 0], &[])), "refused 1\n");
+        assert_eq!(judge(&join_parts(&[], &[1, 1, 1, 0], &[])), "refused 1 at 0\n");
         assert_eq!(judge(&join_parts(&[], &[0, 1], &[])), "refused 5\n");
         assert_eq!(judge(&join_parts(&[0, 0, 0, 1], &[1, 1], &[])), "refused 6\n");
         assert_eq!(judge(&join_parts(&[0, 0, 0, 1], &[1, 1, 1, 0], &[])), "taken 0\n");
     }
 
     #[test]
+    fn refused_policies_are_printed_with_their_place() {
+        let [one, role, not, plus] = [1, 2, 4, 5].map(|kind| [0, 0, 0, kind]);
+        let print = |policy: &[[u8; 4]]| judge(&join_parts(&policy.concat(), &[1, 1, 1, 0], &[]));
+        assert_eq!(print(&[one, [0, 0, 0, 10], [1, 0, 0, 2]]), "refused 2 at 1\n");
+        assert_eq!(print(&[one; 12]), "refused 3 at 1\n");
+        assert_eq!(print(&[not; 31]), "refused 3 at 31\n");
+        assert_eq!(print(&[[0, 0, 0, 8], role, not, plus, one]), "refused 4 at 2\n");
+    }
+
+    #[test]
     fn large_files() {
         let policy = join_parts(&[1; 4080], &[1, 1, 1, 0], &[]);
-        assert_eq!((policy.len(), judge(&policy)), (4096, "refused 1\n".to_string()));
+        assert_eq!((policy.len(), judge(&policy)), (4096, "refused 1 at 0\n".to_string()));
         let rows = join_parts(&[0, 0, 0, 1], &[1; 4080], &[]);
         assert_eq!((rows.len(), judge(&rows)), (4096, "refused 6\n".to_string()));
         let longer = join_parts(&[0, 0, 0, 1], &[1; 4082], &[]);

@@ -3,12 +3,14 @@
 //! - [`terms`]: random terms, also ones that lean on together and apart, and equal forms;
 //! - [`cases`]: random cases and damaged case files;
 //! - [`edges`]: case files at the edges of what 01 allows, and for every refusal;
+//! - [`faults`]: policies with faults at known places;
 //! - [`instances`]: raw instances, well formed and malformed in each way that number 15 lists;
 //! - [`calls`]: inputs for single calls, with outputs and workspaces of every length.
 
 pub mod calls;
 pub mod cases;
 pub mod edges;
+pub mod faults;
 pub mod instances;
 pub mod random;
 pub mod terms;
@@ -55,9 +57,13 @@ mod tests {
     #[test]
     fn edges_bring_about_every_number_that_a_case_file_can() {
         let texts: Vec<String> = edges::all().iter().map(|(_, bytes)| judge(bytes)).collect();
-        for refusal in [1, 2, 3, 4, 5, 6, 14] {
+        for refusal in [5, 6, 14] {
             let wanted = format!("refused {refusal}\n");
             assert!(texts.contains(&wanted), "{wanted}");
+        }
+        for refusal in 1..=4 {
+            let wanted = format!("refused {refusal} at ");
+            assert!(texts.iter().any(|text| text.starts_with(&wanted)), "{wanted}");
         }
         for answer in ["0", "7", "8", "9", "10", "11"] {
             let has =
@@ -73,9 +79,10 @@ mod tests {
                 continue;
             };
             let text = judge(&bytes);
-            let expected = format!("refused {first}\n");
+            let fields: Vec<&str> = text.split_whitespace().collect();
             let event = format!(" {first} ");
-            assert!(text == expected || text.contains(&event), "{name}: {text}");
+            let comes_first = fields[..2] == ["refused", first] || text.contains(&event);
+            assert!(comes_first, "{name}: {text}");
         }
     }
 

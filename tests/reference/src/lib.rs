@@ -5,6 +5,7 @@
 //! multisets.
 //!
 //! - [`policy`]: terms, reading policy words, the normal form;
+//! - [`place`]: the place of a policy's fault;
 //! - [`search`]: satisfied and possible, by search on lists;
 //! - [`event`]: event words;
 //! - [`monitor`]: a monitor and its rules, for either way to keep an action;
@@ -30,6 +31,7 @@ pub mod generate;
 pub mod literal;
 pub mod monitor;
 pub mod multiset;
+pub mod place;
 pub mod policy;
 pub mod raw;
 pub mod search;

@@ -127,9 +127,9 @@ impl Term {
         places.map(|place| 1u32 << place).sum()
     }
 
-    /// Whether some not or plus stands over a term that is no unit term.
-    fn misplaces_not_or_plus(&self) -> bool {
-        self.prefix_order().into_iter().any(|term| match term {
+    /// The first word that is a not or plus over a term that is no unit term, if there is one.
+    pub(crate) fn first_misplaced(&self) -> Option<usize> {
+        self.prefix_order().into_iter().position(|term| match term {
             Term::Not(inner) | Term::Plus(inner) => !inner.is_unit(),
             _ => false,
         })
@@ -211,7 +211,7 @@ pub fn counts_fit(users: usize, roles: usize) -> bool {
 }
 
 /// Whether a word is in the layout and names only declared users and roles and no empty set.
-fn word_fits(users: usize, roles: usize, word: u32) -> bool {
+pub(crate) fn word_fits(users: usize, roles: usize, word: u32) -> bool {
     let operand = (word & 0xffff) as u16;
     let operand_fits = match word >> 24 {
         1 | 4..=9 => operand == 0,
@@ -226,7 +226,7 @@ fn word_fits(users: usize, roles: usize, word: u32) -> bool {
 ///
 /// Goes through the words from the last to the first and keeps the terms that are whole so far;
 /// a word takes its sides from the last ones kept.
-fn build(words: &[u32]) -> Option<Term> {
+pub(crate) fn build(words: &[u32]) -> Option<Term> {
     let mut whole: Vec<Term> = Vec::new();
     for word in words.iter().rev() {
         let operand = (word & 0xffff) as u16;
@@ -263,7 +263,7 @@ pub fn read_term(users: usize, roles: usize, words: &[u32]) -> Result<Term, Code
         return Err(code::POLICY_WORD);
     }
     let term = build(words).ok_or(code::NOT_ONE_TERM)?;
-    if term.misplaces_not_or_plus() {
+    if term.first_misplaced().is_some() {
         return Err(code::NOT_OVER_UNIT);
     }
     Ok(term)

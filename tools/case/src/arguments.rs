@@ -21,7 +21,8 @@ usage: case VERB [INPUT] [-o OUTPUT]
 
 INPUT is a file, else standard input; OUTPUT a file, else standard output.
 words and normal take a text, which needs users, roles and policy only, or a
-case file. docs/POLICIES.md says how a text is written.
+case file. Of a refused policy run, words and normal show the text, with a mark
+below the word at fault. docs/POLICIES.md says how a text is written.
 
 Exit status: 0 if all is well; 1 if the input is faulty or refused, or cannot
 be read, or the output cannot be written; 2 for a wrong command line.

@@ -24,12 +24,14 @@
 //! sides and are checked; they may be left out. `revoke` may also be called `withdraw`. What a text
 //! names must be declared, and nothing may be missing or too many; `word 0x0a000000` is any policy
 //! or event word, so that refused policies and damaged events can be written too. A text of the
-//! single part `bytes` is any file, malformed or not.
+//! single part `bytes` is any file, malformed or not. Where a policy is refused, it is shown with a
+//! mark below the word at fault.
 
 #![forbid(unsafe_code)]
 
 mod arguments;
 mod file;
+mod mark;
 mod monitor;
 mod names;
 mod policy;
@@ -49,7 +51,6 @@ use std::process::ExitCode;
 
 use arguments::{Command, Verb, USAGE};
 use file::Case;
-use monitor::Refused;
 
 fn main() -> ExitCode {
     let arguments: Vec<OsString> = std::env::args_os().skip(1).collect();
@@ -95,8 +96,8 @@ fn answer(verb: Verb, input: &[u8]) -> Result<(Vec<u8>, bool), String> {
             let shown = show::file(input);
             Ok((shown.text.into(), shown.malformed.is_none()))
         }
-        Verb::Run if text::is_case_file(input) => Ok(ran(input)),
-        Verb::Run => Ok(ran(&written(input)?)),
+        Verb::Run if text::is_case_file(input) => Ok(ran(input, &[])),
+        Verb::Run => Ok(ran(&written(input)?, &lines(input)?)),
         Verb::Words(language) => {
             let (case, _) = accepted_policy(input)?;
             Ok((words::array(language, &case.policy, case.counts()).into(), true))
@@ -113,21 +114,38 @@ fn written(input: &[u8]) -> Result<Vec<u8>, String> {
     text::decode(input).and_then(text::write).map_err(|fault| fault.to_string())
 }
 
-/// What is printed of a case file's run, and whether it was accepted.
-fn ran(bytes: &[u8]) -> (Vec<u8>, bool) {
-    let report = run::report(bytes);
+/// The line of each policy word of a text.
+fn lines(input: &[u8]) -> Result<Vec<usize>, String> {
+    text::decode(input).and_then(text::policy_lines).map_err(|fault| fault.to_string())
+}
+
+/// What is printed of a case file's run, and whether it was accepted. Where it was a text, `lines`
+/// are those in which its policy words stand.
+fn ran(bytes: &[u8], lines: &[usize]) -> (Vec<u8>, bool) {
+    let report = run::report(bytes, lines);
     (report.text.into(), report.accepted)
+}
+
+/// The policy of an input, and where it was a text, the line of each of its words.
+fn policy_of(input: &[u8]) -> Result<(Case, Vec<usize>), String> {
+    if text::is_case_file(input) {
+        let case = file::read(input).map_err(|reason| format!("malformed (14): {reason}"))?;
+        return Ok((case, vec![]));
+    }
+    let case =
+        text::decode(input).and_then(text::policy_alone).map_err(|fault| fault.to_string())?;
+    Ok((case, lines(input)?))
 }
 
 /// The policy of an input, which the library accepts, and its normal form.
 fn accepted_policy(input: &[u8]) -> Result<(Case, Vec<u32>), String> {
-    let case = if text::is_case_file(input) {
-        file::read(input).map_err(|reason| format!("malformed (14): {reason}"))?
-    } else {
-        text::decode(input).and_then(text::policy_alone).map_err(|fault| fault.to_string())?
-    };
+    let (case, lines) = policy_of(input)?;
     match monitor::normal_form(&case) {
         Ok(normal) => Ok((case, normal)),
-        Err(Refused { number, sentence }) => Err(format!("refused {number}: {sentence}")),
+        Err(refused) => {
+            let (line, mark) = (mark::line(&refused, &lines), mark::fault(&case, &refused));
+            let told = format!("{line}{refused}: {}\n{mark}", refused.sentence);
+            Err(told.trim_end().to_string())
+        }
     }
 }

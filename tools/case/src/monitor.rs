@@ -1,5 +1,7 @@
 //! The linked library, as far as this tool uses it. No other module names it.
 
+use std::fmt;
+
 use oskhrein::{Monitor, Refusal, Workspace};
 
 use crate::file::Case;
@@ -11,11 +13,13 @@ pub const MOST_USERS: usize = oskhrein::MAX_USERS;
 /// The most roles.
 pub const MOST_ROLES: usize = oskhrein::MAX_ROLES;
 
-/// A refusal: its number, and what that number says.
+/// A refusal: its number, the place of a policy's fault, and what the number says.
 #[derive(Clone, Debug, PartialEq, Eq)]
 pub struct Refused {
     /// The number.
     pub number: u8,
+    /// The place, if it is a policy's fault.
+    pub place: Option<usize>,
     /// What it says.
     pub sentence: String,
 }
@@ -23,9 +27,20 @@ pub struct Refused {
 impl From<Refusal> for Refused {
     /// What a number says of multisets is left out: none is tested here.
     fn from(refusal: Refusal) -> Refused {
-        let sentence = refusal.to_string();
-        let own = sentence.split(';').next().unwrap_or_default();
-        Refused { number: refusal.number(), sentence: own.to_string() }
+        let own = refusal.sentence().split(';').next().unwrap_or_default();
+        let (number, place) = (refusal.number(), refusal.place());
+        Refused { number, place, sentence: own.to_string() }
+    }
+}
+
+/// As the judge prints it.
+impl fmt::Display for Refused {
+    fn fmt(&self, formatter: &mut fmt::Formatter) -> fmt::Result {
+        write!(formatter, "refused {}", self.number)?;
+        match self.place {
+            Some(place) => write!(formatter, " at {place}"),
+            None => Ok(()),
+        }
     }
 }
 

@@ -14,28 +14,37 @@ struct Open {
     parentheses: bool,
 }
 
+/// A policy's words, and the line in which each stands.
+pub struct Policy {
+    /// The words.
+    pub words: Vec<u32>,
+    /// Their lines.
+    pub lines: Vec<usize>,
+}
+
 /// A reader of the policy's tokens. What is open is a list of its own, so no nesting is too deep.
 struct Reader<'a> {
     tokens: &'a [Token<'a>],
     line: usize,
     counts: Counts,
-    words: Vec<u32>,
+    read: Policy,
     open: Vec<Open>,
 }
 
-/// The words of a policy.
+/// The policy in a part of a text.
 ///
 /// # Errors
 /// The first fault: something undeclared, missing or too many, or no policy word.
-pub fn read(part: &Part, counts: Counts) -> Result<Vec<u32>, Fault> {
-    let tokens = &part.tokens;
-    let mut reader = Reader { tokens, line: part.line, counts, words: vec![], open: vec![] };
+pub fn read(part: &Part, counts: Counts) -> Result<Policy, Fault> {
+    let (tokens, line) = (&part.tokens, part.line);
+    let read = Policy { words: vec![], lines: vec![] };
+    let mut reader = Reader { tokens, line, counts, read, open: vec![] };
     reader.word()?;
     while reader.wants_side()? {
         reader.word()?;
     }
     match reader.next() {
-        None => Ok(reader.words),
+        None => Ok(reader.read),
         Some(token) => {
             let more = quoted(token.text);
             fault(token.line, format!("{more} stands behind the end of the policy"))
@@ -85,11 +94,12 @@ impl<'a> Reader<'a> {
         };
         self.next();
         let line = self.line;
-        if self.words.len() == MOST_WORDS {
+        if self.read.words.len() == MOST_WORDS {
             return fault(line, format!("{} is one word more than {MOST_WORDS}", quoted(name)));
         }
         let word = self.value(name)?;
-        self.words.push(word);
+        self.read.words.push(word);
+        self.read.lines.push(line);
         let parentheses = self.is_next("(");
         if parentheses && sides(word) == 0 {
             return fault(line, format!("parentheses behind `{name}`, which has no sides"));

@@ -1,13 +1,15 @@
 //! A case, run through the library.
 
 use crate::file::{self, Case};
+use crate::mark;
 use crate::monitor::{self, Opened, Refused};
 use crate::names::{event_word, members};
 
 /// What is printed of a run.
 pub struct Report {
     /// The judge's lines, each with who may act, and those of events with the event and what its
-    /// number says.
+    /// number says; or the judge's line of a refusal with what its number says, and the policy with
+    /// the fault marked.
     pub text: String,
     /// Whether the file and the opening were accepted.
     pub accepted: bool,
@@ -16,21 +18,24 @@ pub struct Report {
 /// One event in columns: the judge's line, the event, who may act, and what its number says.
 type Row = [String; 4];
 
-/// Runs a case file.
-pub fn report(bytes: &[u8]) -> Report {
-    match file::read(bytes) {
-        Ok(case) => match monitor::open(&case) {
-            Ok(opened) => Report { text: events(&case, opened), accepted: true },
-            Err(refused) => refusal(&refused, ""),
-        },
-        Err(reason) => refusal(&monitor::malformed(), &format!(": {reason}")),
+/// Runs a case file. Where it was a text, `lines` are those in which its policy words stand.
+pub fn report(bytes: &[u8], lines: &[usize]) -> Report {
+    let case = match file::read(bytes) {
+        Ok(case) => case,
+        Err(reason) => {
+            let refused = monitor::malformed();
+            let text = format!("{refused}  {}: {reason}\n", refused.sentence);
+            return Report { text, accepted: false };
+        }
+    };
+    match monitor::open(&case) {
+        Ok(opened) => Report { text: events(&case, opened), accepted: true },
+        Err(refused) => {
+            let (line, mark) = (mark::line(&refused, lines), mark::fault(&case, &refused));
+            let text = format!("{refused}  {line}{}\n{mark}", refused.sentence);
+            Report { text, accepted: false }
+        }
     }
-}
-
-/// The report of a refused file or opening.
-fn refusal(refused: &Refused, reason: &str) -> Report {
-    let Refused { number, sentence } = refused;
-    Report { text: format!("refused {number}  {sentence}{reason}\n"), accepted: false }
 }
 
 /// The lines of the events, in columns, and the number of actions taken.
@@ -50,7 +55,7 @@ fn events(case: &Case, mut opened: Opened) -> String {
 fn row(case: &Case, opened: &mut Opened, place: usize, word: u32) -> Row {
     let (number, sentence) = match opened.event(word) {
         Ok(()) => (0, "accepted".to_string()),
-        Err(Refused { number, sentence }) => (number, sentence),
+        Err(Refused { number, sentence, .. }) => (number, sentence),
     };
     let judged = format!("{place} {number} {}", opened.status());
     [judged, event_word(word, case.counts()), may_act(opened), sentence]

@@ -4,6 +4,7 @@ use crate::file::{self, Case};
 use crate::monitor::MOST_WORDS;
 use crate::names::{event_word, is_one_term, members, sides, term_word, Counts};
 use crate::text;
+use crate::words::depths;
 
 /// The columns within which a term stays on one line.
 const WIDTH: usize = 72;
@@ -62,12 +63,16 @@ fn raw(bytes: &[u8]) -> String {
 }
 
 /// The lines of a policy: a term with its sides in parentheses, or, where the words are not one
-/// term, a word a line.
-fn policy(words: &[u32], counts: Counts) -> String {
+/// term, a word a line, indented by the terms around it.
+pub fn policy(words: &[u32], counts: Counts) -> String {
     if words.len() <= MOST_WORDS && is_one_term(words) {
         return format!("  {}\n", term(words, counts, 2));
     }
-    words.iter().map(|word| format!("  {}\n", term_word(*word, counts))).collect()
+    let line = |(word, depth): (&u32, usize)| {
+        let indent = "  ".repeat(1 + depth.min(MOST_WORDS));
+        format!("{indent}{}\n", term_word(*word, counts))
+    };
+    words.iter().zip(depths(words)).map(line).collect()
 }
 
 /// The words of a term; its lines behind the first begin in this column or further right.

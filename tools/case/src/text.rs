@@ -149,7 +149,7 @@ pub fn write(text: &str) -> Result<Vec<u8>, Fault> {
     Ok(file::write(&Case {
         users: counts.users,
         roles: counts.roles,
-        policy: policy::read(parts.need("policy")?, counts)?,
+        policy: policy::read(parts.need("policy")?, counts)?.words,
         grants: grants(parts.need("grants")?, counts)?,
         events: events(parts.need("events")?, counts)?,
     }))
@@ -165,6 +165,18 @@ pub fn policy_alone(text: &str) -> Result<Case, Fault> {
         return file::read(&bytes).or_else(|reason| fault(1, reason));
     }
     let counts = counts(&parts)?;
-    let policy = policy::read(parts.need("policy")?, counts)?;
+    let policy = policy::read(parts.need("policy")?, counts)?.words;
     Ok(Case { users: counts.users, roles: counts.roles, policy, ..Case::default() })
+}
+
+/// The line of each policy word of a text. One that says bytes has none.
+///
+/// # Errors
+/// The first fault of the counts and the policy.
+pub fn policy_lines(text: &str) -> Result<Vec<usize>, Fault> {
+    let parts = parts(text)?;
+    if parts.get("bytes").is_some() {
+        return Ok(vec![]);
+    }
+    Ok(policy::read(parts.need("policy")?, counts(&parts)?)?.lines)
 }

@@ -29,8 +29,8 @@ pub fn array(language: Language, words: &[u32], counts: Counts) -> String {
     text + last + "\n"
 }
 
-/// For each word of a term how many terms are around it.
-fn depths(words: &[u32]) -> Vec<usize> {
+/// For each word how many terms are around it. What is left over behind a whole term has none.
+pub fn depths(words: &[u32]) -> Vec<usize> {
     // the depths of the terms that are still to come, the next one last
     let mut due = vec![0];
     let mut depths = Vec::new();

@@ -8,9 +8,12 @@ use borrow.Author.Needs.{needs}
 use borrow.Author.Tests.{lt-ltb, le-ltb, eq-eqb, ne-eqb, not-true, not-false}
 use lib.ListN.{length, drop}
 use Rattle.monitor.specs.declared.Monitor.{Monitor}
-use Rattle.monitor.specs.declared.Answer.{Answer}
+use Rattle.monitor.specs.declared.Opened.{Opened}
 use Rattle.policy.specs.Codes.{CASE}
-use Rattle.monitor.specs.Monitors.{openCode, fresh, opened, wellFormed}
+use Rattle.policy.specs.Faults.{codeNumber}
+use Rattle.policy.specs.declared.Code.the-variants.{Plain}
+use Rattle.policy.proofs.Places.{code-has-number}
+use Rattle.monitor.specs.Monitors.{openCode, fresh, opened, opening, wellFormed}
 use Rattle.monitor.proofs.Opening.{opened-is-fresh}
 use Rattle.monitor.proofs.Preserved.{opened-is-well-formed}
 use Rattle.casefile.specs.declared.Printed.the-variants.{Written}
@@ -26,11 +29,11 @@ module _ (b : List ℕ) where
   abbrev number : ℕ
   number = openCode (openingOf b)
 
-  malformed-text : caseOk b ≡ false → caseText b ≡ refusedText CASE
+  malformed-text : caseOk b ≡ false → caseText b ≡ refusedText (Plain CASE)
   unfolding caseText
   malformed-text h = rw h
 
-  refused-text : caseOk b ≡ true → (number ≡ 0 → ⊥) → caseText b ≡ refusedText number
+  refused-text : caseOk b ≡ true → (number ≡ 0 → ⊥) → caseText b ≡ refusedText (opening (openingOf b) .code)
   unfolding caseText
   refused-text h n = rw (h, ne-eqb number 0 n)
 
@@ -94,16 +97,22 @@ module _ (c : tie.After-open-case) where
   abbrev fitting : tie.Else1
   fitting = c .before .before .before
 
-  code-is : c .open-case .result .code ≡ number case
-  code-is = ap (λ (a : Answer). a .code) (c .open-case .ensures)
+  code-is : c .open-case .result .code ≡ opening (openingOf case) .code
+  code-is = ap (λ (a : Opened). a .code) (c .open-case .ensures)
 
   left-is : c .open-case .result .monitor ≡ opened (openingOf case)
-  left-is = ap (λ (a : Answer). a .monitor) (c .open-case .ensures)
+  left-is = ap (λ (a : Opened). a .monitor) (c .open-case .ensures)
+
+number-is : (c : tie.After-number-of) → c .number-of .result ≡ number (case (c .before))
+number-is c =
+    let o = openingOf (case (c .before)) in
+    c .number-of .ensures ∙ ap codeNumber (code-is (c .before)) ∙ code-has-number (o .users) (o .roles) (o .words) (openCode o)
 
 put-refused-requires-2 : tie.Need-put-refused-requires-2
 put-refused-requires-2 c κs =
-    let r = refused-length (c .before .before .open-case .result .code) in
-    omega (arith, r, fitting (c .before .before) .if1 .left)
+    let o = c .before .before .before in
+    let r = refused-length (o .open-case .result .code) in
+    omega (arith, r, fitting o .if1 .left)
 
 same-length-2 : tie.Need-same-length-2
 same-length-2 c = search needs
@@ -112,29 +121,33 @@ returns-3 : tie.Need-returns-3
 returns-3 c =
     let p = c .before .before in
     let t = p .before .before in
-    let o = t .before in
+    let n = t .before in
+    let o = n .before in
     let s = start (fitting o) in
-    let refused : number (case o) ≡ 0 → ⊥ = λ z. t .if3 .taken (code-is o ∙ z) in
+    let refused : number (case o) ≡ 0 → ⊥ = λ z. t .if3 .taken (number-is n ∙ z) in
     answered (case o) (s .args .out .now) (fitting o .if1 .left) (refused-text (case o) (well (o .before)) refused ∙ ap refusedText (sym (code-is o))) (p .put-refused2 .ensures)
 
 -- the opening is accepted
 module _ (c : tie.Else3) where
-  accepted : number (case (c .before)) ≡ 0
-  accepted = sym (code-is (c .before)) ∙ c .if3 .left
+  abbrev from : tie.After-open-case
+  from = c .before .before
 
-  fresh-is : c .before .open-case .result .monitor ≡ fresh (openingOf (case (c .before)))
-  fresh-is = left-is (c .before) ∙ opened-is-fresh (openingOf (case (c .before))) accepted
+  accepted : number (case from) ≡ 0
+  accepted = sym (number-is (c .before)) ∙ c .if3 .left
+
+  fresh-is : from .open-case .result .monitor ≡ fresh (openingOf (case from))
+  fresh-is = left-is from ∙ opened-is-fresh (openingOf (case from)) accepted
 
 run-requires : tie.Need-run-requires
 unfolding fresh
 run-requires c κs =
     let e = c .before .before in
-    let b = case (e .before) in
+    let b = case (from e) in
     record {
       isFormed = subst (λ (i : Monitor). So (wellFormed i)) (sym (fresh-is e)) (opened-is-well-formed (openingOf b) (accepted e));
       none = ap (λ (i : Monitor). i .instance .taken) (fresh-is e);
-      case = well (e .before .before);
-      fits = fitting (e .before) .if1 .left;
+      case = well (from e .before);
+      fits = fitting (from e) .if1 .left;
     }
 
 same-length-3 : tie.Need-same-length-3
@@ -144,7 +157,7 @@ returns-4 : tie.Need-returns-4
 returns-4 c =
     let p = c .before .before in
     let e = p .before .before .before in
-    let o = e .before in
+    let o = from e in
     let s = start (fitting o) in
     let text : caseText (case o) ≡ runText (o .open-case .result .monitor) (eventWords (case o)) =
     opened-text (case o) (well (o .before)) (accepted e) ∙ ap (λ (i : Monitor). runText i (eventWords (case o))) (sym (left-is o)) in
@@ -160,6 +173,7 @@ print-case-spec =
     same-length
     returns-2
     open-case-requires
+    (λ c κs. search needs)
     put-refused-requires-2
     same-length-2
     returns-3

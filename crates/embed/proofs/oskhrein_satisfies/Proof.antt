@@ -1,24 +1,19 @@
--- The byte of what the verdict is; the workspace is as the multiset test leaves it.
+-- The byte and the place of what the verdict is; the workspace is as the multiset test leaves it.
 use mathlib.Core.Path.{ap, _∙_}
+use Rattle.multiset.specs.MultisetTest.{TestOutcome}
 use Rattle.embed.specs.Bytes.{verdictByte}
+use Rattle.embed.specs.Lent.{placeLeft}
 use borrow.Author.Needs.{needs}
 use Rattle.embed.proofs.oskhrein_satisfies.Statement.{statement}
 use Rattle.embed.proofs.oskhrein_satisfies.Tie as tie
 
-satisfies-requires : tie.Need-satisfies-requires
-satisfies-requires c κs = search needs
-
-verdict-byte-requires : tie.Need-verdict-byte-requires
-verdict-byte-requires c κs = search needs
-
-same-length : tie.Need-same-length
-same-length c = search needs
-
 returns : tie.Need-returns
 returns c =
-    let s = c .before .before .before in
-    (c .verdict-byte .ensures ∙ ap verdictByte (s .satisfies .ensures .0), s .satisfies .ensures .1)
+    let s = c .before .before .before .before in
+    let e = s .satisfies .ensures in
+    let v = c .verdict-byte .ensures in
+    (v .0 ∙ ap verdictByte (e .0), v .1 ∙ ap (λ (o : TestOutcome). placeLeft (o .code) (c .before .before .before .before .before .before .before .before .before .before .args .place .now)) (e .0), e .1)
 
 pub oskhrein-satisfies-spec : {M : Type 1} → statement M
 oskhrein-satisfies-spec =
-    tie.close (tie.spec satisfies-requires verdict-byte-requires same-length returns)
+    tie.close (tie.spec (λ c κs. search needs) (λ c κs. search needs) (λ c. search needs) returns)

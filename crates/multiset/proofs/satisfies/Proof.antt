@@ -1,5 +1,6 @@
 -- The refusals in order; behind them the multiset's actions are evaluated.
 use mathlib.Core.Path.{_≡_, sym, ap, _∙_}
+use mathlib.Core.Logic.{_≢_}
 use mathlib.Core.Bool.{true, false}
 use mathlib.Core.List.{List, map}
 use Prim.Native.Nat.{_≤_}
@@ -12,13 +13,16 @@ use Rattle.soda.specs.Lists.{all}
 use Rattle.soda.specs.Tables.{satisfied}
 use Rattle.soda.specs.declared.Action.{Action}
 use Rattle.policy.specs.Codes.{MALFORMED, FULL, WORKSPACE}
+use Rattle.policy.specs.Faults.{codeNumber}
+use Rattle.policy.proofs.Places.{code-has-number}
 use Rattle.workspace.specs.Workspace.{filled}
 use Rattle.instance.specs.Configurations.{isZero}
 use Rattle.monitor.specs.Monitors.{Opening, given, policy, openCode}
-use Rattle.monitor.specs.declared.Answer.{Answer}
+use Rattle.monitor.specs.declared.Opened.{Opened}
+use Rattle.monitor.proofs.Opening.{codeIn}
 use Rattle.multiset.specs.MultisetTest.{total, listed, notedBy, testRefusals, testCode}
 use Rattle.multiset.proofs.Listed.{total-zero}
-use Rattle.multiset.proofs.Answers.{counted, fillable, code-opening, code-own, refused-test, yes-test, no-test}
+use Rattle.multiset.proofs.Answers.{counted, fillable, code-opening, code-own, refused-test, refused-plain, yes-test, no-test}
 use Rattle.multiset.proofs.satisfies.Statement.{statement}
 use Rattle.multiset.proofs.satisfies.Tie as tie
 
@@ -38,7 +42,7 @@ returns : tie.Need-returns
 unfolding testRefusals
 returns c =
     let s = first (c .before) in
-    refused-test (asked s) (s .args .counts) (s .args .workspace .now) WORKSPACE (omega arith) (rw (lt-ltb (length (s .args .workspace .now)) 8192 (c .if1 .taken)))
+    refused-plain (asked s) (s .args .counts) (s .args .workspace .now) WORKSPACE (omega arith) (rw (lt-ltb (length (s .args .workspace .now)) 8192 (c .if1 .taken)))
 
 module _ (e : tie.Else1) where
   abbrev start : tie.Start
@@ -51,22 +55,29 @@ open-requires : tie.Need-open-requires
 open-requires c κs = search needs
 
 -- ── the opening's numbers ──
-opened-code : (c : tie.After-open) → c .«open» .result .code ≡ openCode (asked (start (c .before)))
-opened-code c = ap (λ (x : Answer). x .code) (c .«open» .ensures)
+opened-code : (c : tie.After-open) → let o = asked (start (c .before)) in c .«open» .result .code ≡ codeIn o (openCode o)
+opened-code c = ap (λ (x : Opened). x .code) (c .«open» .ensures)
+
+opened-number : (c : tie.After-number-of) → c .number-of .result ≡ openCode (asked (start (c .before .before)))
+opened-number c =
+    let o = asked (start (c .before .before)) in
+    c .number-of .ensures ∙ ap codeNumber (opened-code (c .before)) ∙ code-has-number (o .users) (o .roles) (o .words) (openCode o)
 
 returns-2 : tie.Need-returns-2
 returns-2 c =
-    let o = c .before in
+    let n = c .before in
+    let o = n .before in
     let s = start (o .before) in
-    refused-test (asked s) (s .args .counts) (s .args .workspace .now) (o .«open» .result .code) (c .if2 .taken)
-    (code-opening (asked s) (s .args .counts) (s .args .workspace .now) (long (o .before)) (λ z. c .if2 .taken (opened-code o ∙ z)) ∙ sym (opened-code o))
+    let ne : openCode (asked s) ≢ 0 = λ z. c .if2 .taken (opened-number n ∙ z) in
+    refused-test (asked s) (s .args .counts) (s .args .workspace .now) (o .«open» .result .code) (openCode (asked s)) ne (opened-code o)
+    (code-opening (asked s) (s .args .counts) (s .args .workspace .now) (long (o .before)) ne)
 
 module _ (e : tie.Else2) where
   abbrev begun : tie.Start
-  begun = start (e .before .before)
+  begun = start (e .before .before .before)
 
   accepted : openCode (asked begun) ≡ 0
-  accepted = sym (opened-code (e .before)) ∙ e .if2 .left
+  accepted = sym (opened-number (e .before)) ∙ e .if2 .left
 
 total-from-requires : tie.Need-total-from-requires
 total-from-requires c κs = search needs
@@ -79,8 +90,8 @@ returns-3 c =
     let s = begun o in
     let rest = drop (s .args .users) (s .args .counts) in
     let undeclared : all isZero rest ≡ false = total-zero rest ∙ ne-eqb (total rest) 0 (λ z. c .if3 .taken (t .total-from .ensures ∙ z)) in
-    refused-test (asked s) (s .args .counts) (s .args .workspace .now) MALFORMED (omega arith)
-    (code-own (asked s) (s .args .counts) (s .args .workspace .now) (long (o .before .before)) (accepted o) ∙ rw undeclared)
+    refused-plain (asked s) (s .args .counts) (s .args .workspace .now) MALFORMED (omega arith)
+    (code-own (asked s) (s .args .counts) (s .args .workspace .now) (long (o .before .before .before)) (accepted o) ∙ rw undeclared)
 
 module _ (e : tie.Else3) where
   abbrev past-opening : tie.Else2
@@ -104,8 +115,8 @@ returns-4 c =
     let d = c .before .before in
     let o = past-opening d in
     let s = begun o in
-    refused-test (asked s) (s .args .counts) (s .args .workspace .now) FULL (omega arith)
-    (code-own (asked s) (s .args .counts) (s .args .workspace .now) (long (o .before .before)) (accepted o)
+    refused-plain (asked s) (s .args .counts) (s .args .workspace .now) FULL (omega arith)
+    (code-own (asked s) (s .args .counts) (s .args .workspace .now) (long (o .before .before .before)) (accepted o)
     ∙ rw (declared d, lt-ltb 12 (total (s .args .counts)) (omega (arith, c .if4 .taken, c .before .total-from2 .ensures))))
 
 -- ── none of them ──
@@ -124,7 +135,7 @@ module _ (e : tie.Else4) where
 
   no-refusal : testCode (asked from) (from .args .counts) (length (from .args .workspace .now)) ≡ 0
   no-refusal =
-      code-own (asked from) (from .args .counts) (from .args .workspace .now) (long (opened-there .before .before)) (accepted opened-there)
+      code-own (asked from) (from .args .counts) (from .args .workspace .now) (long (opened-there .before .before .before)) (accepted opened-there)
       ∙ rw (declared names-declared, le-ltb 12 (total (from .args .counts)) few)
 
 actions-of-requires : tie.Need-actions-of-requires
@@ -138,7 +149,7 @@ evaluate-requires c κs =
     let e = a .before in
     let s = from e in
     fillable (asked s) (s .args .counts) (accepted (opened-there e)) (few e) (a .actions-of .result) (a .actions-of .ensures)
-    (s .args .workspace .now) (counts-length s) (opened-there e .before .before .if1 .left)
+    (s .args .workspace .now) (counts-length s) (opened-there e .before .before .before .if1 .left)
 
 -- what the evaluation says of the multiset's actions
 module _ (c : tie.After-evaluate) where
@@ -183,6 +194,7 @@ satisfies-spec =
     (tie.spec
     returns
     open-requires
+    (λ c κs. search needs)
     returns-2
     total-from-requires
     returns-3

@@ -1,23 +1,27 @@
 -- The reader's answer decides: a refusal is passed on, and an accepted policy is the words of one term, whose normal form is written.
 use mathlib.Core.Path.{_≡_, refl, sym, ap, _∙_}
-use mathlib.Core.Bool.{false, cond}
+use mathlib.Core.Logic.{_≢_}
+use mathlib.Core.Bool.{Bool, true, false, cond}
 use mathlib.Core.List.{List, [], _∷_, append-nil}
 use Prim.Native.Nat.{ℕ, _≤_, _<_}
 use native.Mathlib.Omega.{arith}
 use lib.Dec.{ltb, eqb}
 use lib.ListN.{length}
 use borrow.Author.Needs.{needs}
-use borrow.Author.Tests.{eqb-true, eqb-false, lt-ltb, le-ltb}
+use borrow.Author.Tests.{eqb-true, eqb-false, ne-eqb, lt-ltb, le-ltb}
 use Rattle.soda.specs.Terms.{size}
 use Rattle.soda.specs.Words.{encode}
 use Rattle.soda.proofs.Bools.{by-test}
 use Rattle.soda.proofs.Words.{encode-length}
 use Rattle.policy.specs.Codes.{ACCEPTED, OUTPUT}
-use Rattle.policy.specs.Refusals.{Refusals, code}
+use Rattle.policy.specs.Refusals.{code}
 use Rattle.policy.specs.Words.{decode}
-use Rattle.policy.specs.Reading.{refusals, unitsOf, numberOf, readPolicy}
-use Rattle.normal.specs.NormalForms.{normalWords, normalRefusals, normalCode, normalOut}
+use Rattle.policy.specs.Faults.{codeAt}
+use Rattle.policy.specs.Reading.{refusals, unitsOf, codeRead, readPolicy}
+use Rattle.normal.specs.NormalForms.{normalWords, normalRefusals, normalCode, normalAnswer, normalOut}
 use Rattle.normal.specs.Private.{Spelt, Written}
+use Rattle.policy.specs.declared.Code.{Code}
+use Rattle.policy.specs.declared.Code.the-variants.{Plain}
 use Rattle.policy.specs.declared.PolicyRead.{PolicyRead}
 use Rattle.policy.specs.declared.PolicyRead.the-variants.{Accepted, Refused}
 use Rattle.policy.proofs.Refusals.{clear, code-front, code-behind}
@@ -25,45 +29,75 @@ use Rattle.policy.proofs.Accepted.{read-is-encode, policy-is-words, decode-is-t
 use Rattle.normal.proofs.normal_form.Statement.{statement}
 use Rattle.normal.proofs.normal_form.Tie as tie
 
--- ── the number ──
--- the number, from the reader's answer and the output's length
-abbrev number : PolicyRead → ℕ → ℕ
-number (Accepted m units) n = cond (ltb n m) OUTPUT ACCEPTED
-number (Refused k) n = k
+-- ── the answer ──
+-- from the reader's answer and the output's length
+abbrev answerOf : PolicyRead → ℕ → Code
+answerOf (Accepted m units) n = Plain (cond (ltb n m) OUTPUT ACCEPTED)
+answerOf (Refused c) n = c
 
 module _ (users roles : ℕ) (ws out : List ℕ) where
   abbrev k : ℕ
   k = code (refusals users roles ws)
 
-  is-number : (n : ℕ) → normalCode users roles ws n ≡ number (readPolicy users roles ws) n
-  unfolding normalRefusals readPolicy
-  is-number n =
-      let m : Refusals = (ltb n (length ws), OUTPUT) ∷ [] in
-      by-test (eqb k 0)
-      (λ e. code-behind (refusals users roles ws) m (clear (refusals users roles ws) refl (eqb-true k 0 e)) ∙ rw e)
-      λ e. code-front (refusals users roles ws) m (eqb-false k 0 e) ∙ rw e
+  -- 13 and 0 have no place
+  plain : (b : Bool) → codeAt users roles ws (cond b OUTPUT ACCEPTED) ≡ Plain (cond b OUTPUT ACCEPTED)
+  unfolding codeAt
+  plain true = refl
+  plain false = refl
 
-  refused-number : (j : ℕ) → readPolicy users roles ws ≡ Refused j → eqb j 0 ≡ false
+  behind : (n : ℕ) → k ≡ 0 → normalCode users roles ws n ≡ cond (ltb n (length ws)) OUTPUT ACCEPTED
+  unfolding normalRefusals
+  behind n e = code-behind (refusals users roles ws) ((ltb n (length ws), OUTPUT) ∷ []) (clear (refusals users roles ws) refl e)
+
+  front : (n : ℕ) → k ≢ 0 → normalCode users roles ws n ≡ k
+  unfolding normalRefusals
+  front n ne = code-front (refusals users roles ws) ((ltb n (length ws), OUTPUT) ∷ []) ne
+
+  is-answer : (n : ℕ) → normalAnswer users roles ws n ≡ answerOf (readPolicy users roles ws) n
   unfolding readPolicy
-  refused-number j e = by-test (eqb k 0)
-      (λ d. absurd (let z : Accepted (length ws) (unitsOf (decode ws)) ≡ Refused j = rw d at e in let y : _≡_ {A = ℕ} 0 1 = cc in omega arith))
-      λ d. let z : Refused k ≡ Refused j = rw d at e in let y : k ≡ j = cc in rw y at d
+  is-answer n = by-test (eqb k 0)
+      (λ e. ap (codeAt users roles ws) (behind n (eqb-true k 0 e)) ∙ plain (ltb n (length ws)) ∙ rw e)
+      λ e. ap (codeAt users roles ws) (front n (eqb-false k 0 e)) ∙ rw e
+
+  is-refused : (c : Code) → readPolicy users roles ws ≡ Refused c → k ≢ 0
+  unfolding readPolicy
+  is-refused c e z = let y : Accepted (length ws) (unitsOf (decode ws)) ≡ Refused c = rw z at e in let x : _≡_ {A = ℕ} 0 1 = cc in omega arith
 
   -- a refusal leaves the output
-  left : (j : ℕ) → normalCode users roles ws (length out) ≡ j → eqb j 0 ≡ false → (j ≡ normalCode users roles ws (length out)) × (out ≡ normalOut users roles ws out)
+  left : normalCode users roles ws (length out) ≢ 0 → out ≡ normalOut users roles ws out
   unfolding normalOut
-  left j e z = (sym e, rw (e, z))
+  left ne = rw (ne-eqb (normalCode users roles ws (length out)) 0 ne)
 
-  refused : (j : ℕ) → readPolicy users roles ws ≡ Refused j → (j ≡ normalCode users roles ws (length out)) × (out ≡ normalOut users roles ws out)
-  refused j e = left j (is-number (length out) ∙ ap (λ (r : PolicyRead). number r (length out)) e) (refused-number j e)
+  refused : (c : Code) → readPolicy users roles ws ≡ Refused c → (c ≡ normalAnswer users roles ws (length out)) × (out ≡ normalOut users roles ws out)
+  refused c e =
+      let n = is-refused c e in
+      (sym (is-answer (length out) ∙ ap (λ (r : PolicyRead). answerOf r (length out)) e), left (λ z. n (sym (front (length out) n) ∙ z)))
 
-  no-room : (n m : ℕ) → readPolicy users roles ws ≡ Accepted n m → length out < n → (OUTPUT ≡ normalCode users roles ws (length out)) × (out ≡ normalOut users roles ws out)
-  no-room n m e h = left OUTPUT (is-number (length out) ∙ rw (e, lt-ltb (length out) n h)) refl
+  -- an accepted policy
+  module _ (n m : ℕ) (e : readPolicy users roles ws ≡ Accepted n m) where
+    clear-code : k ≡ 0
+    unfolding readPolicy
+    clear-code = by-test (eqb k 0) (λ d. eqb-true k 0 d)
+        λ d. absurd (let z : Refused (codeAt users roles ws k) ≡ Accepted n m = rw d at e in let y : _≡_ {A = ℕ} 0 1 = cc in omega arith)
+
+    word-count : length ws ≡ n
+    unfolding readPolicy
+    word-count = let z : Accepted (length ws) (unitsOf (decode ws)) ≡ Accepted n m = rw clear-code at e in cc
+
+  no-room : (n m : ℕ) → readPolicy users roles ws ≡ Accepted n m → length out < n
+      → (Plain OUTPUT ≡ normalAnswer users roles ws (length out)) × (out ≡ normalOut users roles ws out)
+  no-room n m e h =
+      let short = lt-ltb (length out) (length ws) (omega (arith, word-count n m e)) in
+      let b : normalCode users roles ws (length out) ≡ OUTPUT = behind (length out) (clear-code n m e) ∙ ap (λ b. cond b OUTPUT ACCEPTED) short in
+      (sym (is-answer (length out) ∙ rw (e, lt-ltb (length out) n h)), left (λ z. omega (arith, b)))
 
   -- an accepted policy, and room for it
   module _ (n m : ℕ) (e : readPolicy users roles ws ≡ Accepted n m) (h : n ≤ length out) where
+    is-accepted : Plain ACCEPTED ≡ normalAnswer users roles ws (length out)
+    is-accepted = sym (is-answer (length out) ∙ rw (e, le-ltb (length out) n h))
+
     accepted : 0 ≡ normalCode users roles ws (length out)
-    accepted = sym (is-number (length out) ∙ rw (e, le-ltb (length out) n h))
+    accepted = sym (behind (length out) (clear-code n m e) ∙ rw (le-ltb (length out) (length ws) (omega (arith, word-count n m e))))
 
     spelt : Spelt ws (length out)
     spelt =
@@ -95,8 +129,8 @@ enum-known-answer c = search needs
 enum-told : tie.Need-enum-told
 enum-told c = search needs
 
-number-of-requires : tie.Need-number-of-requires
-number-of-requires c κs = search needs
+code-of-requires : tie.Need-code-of-requires
+code-of-requires c κs = search needs
 
 returns : tie.Need-returns
 returns c =
@@ -104,7 +138,7 @@ returns c =
     let a = r .before .before .before .args in
     let told = c .before .enum-told .given in
     let q = refused (a .users) (a .roles) (a .words .now) (a .out .now) (told .0 .0) (sym (r .read .ensures) ∙ told .1) in
-    (c .number-of .ensures ∙ ap numberOf (told .1) ∙ q .0, q .1)
+    (c .code-of .ensures ∙ ap codeRead (told .1) ∙ q .0, q .1)
 
 -- the policy is accepted
 abbrev asked : tie.After-known-told → tie.After-read
@@ -143,7 +177,7 @@ returns-3 c =
     let e = n .before .before in
     let p = e .before in
     let a = start p .args in (
-      accepted (a .users) (a .roles) (a .words .now) (a .out .now) (size-of p) (units-of p) (answered p) (e .if1 .left),
+      is-accepted (a .users) (a .roles) (a .words .now) (a .out .now) (size-of p) (units-of p) (answered p) (e .if1 .left),
       written (a .users) (a .roles) (a .words .now) (a .out .now) (size-of p) (units-of p) (answered p) (e .if1 .left) (n .normal-term .ensures),
     )
 
@@ -154,7 +188,7 @@ normal-form-spec =
     read-requires
     enum-known-answer
     enum-told
-    number-of-requires
+    code-of-requires
     returns
     returns-2
     normal-term-requires

@@ -14,7 +14,7 @@ use reference::raw::RawInstance;
 use reference::workspace::WORDS;
 
 use super::left::Left;
-use super::{byte, Call};
+use super::{byte, Call, RUN_EVERY};
 use crate::lent::Lent;
 use crate::library::laid_out;
 use crate::report::Seen;
@@ -80,7 +80,7 @@ pub fn compare(library: &Calls, seed: u64, count: usize) -> (Call, Seen) {
         let flipped = EnabledInput { instance: flipped(&mut random, input.instance), ..input };
         enabled.check(&format!("flipped {turn} of seed {seed}"), &flipped);
         let (_, bytes) = cases::random_file(&mut random, turn);
-        if let (0, Ok(case)) = (turn % 8, read_case(&bytes)) {
+        if let (0, Ok(case)) = (turn % RUN_EVERY, read_case(&bytes)) {
             enabled.run(&format!("run {turn} of seed {seed}"), &case);
         }
     }
@@ -135,7 +135,7 @@ impl Enabled<'_> {
             return;
         };
         let mut monitor = Monitor::BLANK;
-        self.library.open(&mut monitor, users, roles, policy, user_roles);
+        self.library.open(&mut monitor, users, roles, policy, user_roles, &mut 0);
         let mut kept = self.follow(label, &monitor, &grown);
         for (place, word) in events.iter().enumerate() {
             let label = format!("{label}, event {place} of (hex) {case:x?}");

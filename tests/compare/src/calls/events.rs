@@ -11,7 +11,7 @@ use reference::monitor::{Monitor as Grown, Taken};
 use reference::workspace::WORDS;
 
 use super::left::Left;
-use super::{byte, Call};
+use super::{byte, Call, RUN_EVERY};
 use crate::lent::Lent;
 use crate::library::laid_out;
 
@@ -41,7 +41,7 @@ pub fn compare(library: &Calls, seed: u64, count: usize) -> [Call; 2] {
         let flipped = EventInput { instance: flipped(&mut random, input.instance), ..input };
         events.check(&format!("flipped {turn} of seed {seed}"), &flipped);
         let (_, bytes) = cases::random_file(&mut random, turn);
-        if let (0, Ok(case)) = (turn % 8, read_case(&bytes)) {
+        if let (0, Ok(case)) = (turn % RUN_EVERY, read_case(&bytes)) {
             events.run(&format!("run {turn} of seed {seed}"), &case);
         }
     }
@@ -106,7 +106,7 @@ impl Events<'_> {
             return;
         };
         let mut monitor = Monitor::BLANK;
-        self.library.open(&mut monitor, users, roles, policy, user_roles);
+        self.library.open(&mut monitor, users, roles, policy, user_roles, &mut 0);
         for (place, word) in events.iter().enumerate() {
             let label = format!("{label}, event {place} of (hex) {case:x?}");
             let mut workspace = Lent::new(WORDS);

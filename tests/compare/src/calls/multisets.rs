@@ -1,15 +1,17 @@
-//! The multiset test (01: bag test): the answer, and a workspace that fits some numbering of the
-//! multiset's actions, since 01 leaves their order open.
+//! The multiset test (01: bag test): the answer, the place of a policy's fault, and a workspace that
+//! fits some numbering of the multiset's actions, since 01 leaves their order open.
 
 use oskhrein::raw::Calls;
-use reference::generate::calls::{multiset_edges, multiset_input, MultisetInput};
+use reference::generate::calls::{faulty_multisets, multiset_edges, multiset_input, MultisetInput};
 use reference::generate::Random;
 use reference::monitor::Taken;
 use reference::multiset::{multiset, open_multiset};
+use reference::place::place_of;
 use reference::policy::Term;
 use reference::workspace::{fits_some_numbering, POSSIBLE, WORDS};
 
-use super::{byte, Call};
+use super::{byte, Reader};
+use crate::faults::Policy;
 use crate::lent::Lent;
 use crate::report::answer_text;
 
@@ -18,38 +20,45 @@ use crate::report::answer_text;
 const TRIED: usize = 6;
 
 /// Compares on the edges and on so many random multisets.
-pub fn compare(library: &Calls, seed: u64, count: usize) -> Call {
-    let mut call = Call::new("satisfies", &[1, 2, 3, 4, 5, 6, 7, 8, 12, b'n', b'y']);
+pub fn compare(library: &Calls, seed: u64, count: usize) -> Reader {
+    let mut reader = Reader::new("satisfies", &[1, 2, 3, 4, 5, 6, 7, 8, 12, b'n', b'y']);
     for (name, input) in multiset_edges() {
-        check(&mut call, library, name, &input);
+        check(&mut reader, library, name, &input);
+    }
+    for (name, input) in faulty_multisets() {
+        check(&mut reader, library, &name, &input);
     }
     let mut random = Random::new(seed);
     for turn in 0..count {
-        if call.group.is_enough() {
+        if reader.call.group.is_enough() {
             break;
         }
         let input = multiset_input(&mut random);
-        check(&mut call, library, &format!("random {turn} of seed {seed}"), &input);
+        check(&mut reader, library, &format!("random {turn} of seed {seed}"), &input);
     }
-    call
+    reader
 }
 
 /// One multiset. The numbering by ascending user is tried first, then others.
-fn check(call: &mut Call, library: &Calls, label: &str, input: &MultisetInput) {
+fn check(reader: &mut Reader, library: &Calls, label: &str, input: &MultisetInput) {
     let MultisetInput { users, roles, words, user_roles, counts, workspace } = input;
+    let (users, roles) = (*users, *roles);
     let mut expected = Lent::new(*workspace);
-    let answered = multiset(*users, *roles, words, user_roles, counts, expected.words());
+    let answered = multiset(users, roles, words, user_roles, counts, expected.words());
+    let place = answered.err().and_then(|code| place_of(code, users, roles, words));
     let expected_answer = byte(answered.map(|yes| if yes { b'y' } else { b'n' }));
-    let mut got = Lent::new(*workspace);
-    let (n_users, n_roles) = (*users as u8, *roles as u8);
-    let answer = library.satisfies(n_users, n_roles, words, user_roles, counts, got.words());
+    let (mut got, mut lent) = (Lent::new(*workspace), reader.lent_byte());
+    let (space, byte) = (got.words(), lent.byte());
+    let answer =
+        library.satisfies(users as u8, roles as u8, words, user_roles, counts, space, byte);
     let same = answer == expected_answer
-        && (got == expected || fits(input, &mut got.clone(), &mut expected.clone()));
-    call.check(answer, same, || {
+        && (got == expected || fits(input, &mut got.clone(), &mut expected.clone()))
+        && lent.holds(place);
+    reader.check(Policy { users, roles, words }, answer, same, || {
         let (expected_answer, answer) = (answer_text(expected_answer), answer_text(answer));
-        let first = expected.first_difference(&got);
+        let (first, place) = (expected.first_difference(&got), lent.against(place));
         format!(
-            "{label}\n  (hex) {input:x?}\n  expected {expected_answer}, got {answer}
+            "{label}\n  (hex) {input:x?}\n  expected {expected_answer}, got {answer}\n{place}
   first other workspace word, numbered by ascending user (place, expected, got): {first:x?}"
         )
     });

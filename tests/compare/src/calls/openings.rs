@@ -1,11 +1,14 @@
-//! Opening a monitor: the number, and the whole monitor, which is blank after a refusal.
+//! Opening a monitor: the number, the place of a policy's fault, and the whole monitor, which is blank
+//! after a refusal.
 
 use oskhrein::raw::{Calls, Monitor};
 use reference::casefile::{read_case, Case};
 use reference::generate::{cases, edges, Random};
+use reference::place::place_of;
 use reference::raw::RawInstance;
 
-use super::Call;
+use super::Reader;
+use crate::faults::Policy;
 use crate::fuzz::likely_word;
 use crate::library::laid_out;
 use crate::report::answer_text;
@@ -26,39 +29,42 @@ fn unrelated(random: &mut Random) -> Case {
 }
 
 /// Compares on all edges, on so many random cases and on as many with unrelated parts.
-pub fn compare(library: &Calls, seed: u64, count: usize) -> Call {
-    let mut call = Call::new("open", &[0, 1, 2, 3, 4, 5, 6]);
+pub fn compare(library: &Calls, seed: u64, count: usize) -> Reader {
+    let mut reader = Reader::new("open", &[0, 1, 2, 3, 4, 5, 6]);
     for (name, bytes) in edges::all() {
         if let Ok(case) = read_case(&bytes) {
-            check(&mut call, library, &name, &case);
+            check(&mut reader, library, &name, &case);
         }
     }
     let mut random = Random::new(seed);
     for turn in 0..count {
-        if call.group.is_enough() {
+        if reader.call.group.is_enough() {
             break;
         }
         let (kind, bytes) = cases::random_file(&mut random, turn);
         let case = read_case(&bytes).unwrap_or_else(|_| cases::misworded(&mut random));
-        check(&mut call, library, &format!("{kind} {turn} of seed {seed}"), &case);
+        check(&mut reader, library, &format!("{kind} {turn} of seed {seed}"), &case);
         let case = unrelated(&mut random);
-        check(&mut call, library, &format!("unrelated {turn} of seed {seed}"), &case);
+        check(&mut reader, library, &format!("unrelated {turn} of seed {seed}"), &case);
     }
-    call
+    reader
 }
 
 /// One opening.
-fn check(call: &mut Call, library: &Calls, label: &str, case: &Case) {
-    let Case { users, roles, policy, user_roles, .. } = case;
-    let (code, raw) = RawInstance::open((*users).into(), (*roles).into(), policy, user_roles);
-    let mut monitor = unopened();
-    let answer = library.open(&mut monitor, *users, *roles, policy, user_roles);
+fn check(reader: &mut Reader, library: &Calls, label: &str, case: &Case) {
+    let Case { users, roles, policy: words, user_roles, .. } = case;
+    let policy = Policy { users: (*users).into(), roles: (*roles).into(), words };
+    let (code, raw) = RawInstance::open(policy.users, policy.roles, words, user_roles);
+    let place = place_of(code, policy.users, policy.roles, words);
+    let (mut monitor, mut lent) = (unopened(), reader.lent_byte());
+    let answer = library.open(&mut monitor, *users, *roles, words, user_roles, lent.byte());
     let expected = laid_out(&raw);
-    call.check(answer, answer == code as u8 && monitor == expected, || {
-        let answer = answer_text(answer);
+    let same = answer == code as u8 && monitor == expected && lent.holds(place);
+    reader.check(policy, answer, same, || {
+        let (answer, place) = (answer_text(answer), lent.against(place));
         format!(
-            "{label}\n  users {users}, roles {roles}, policy {policy:08x?}, rows {user_roles:04x?}
-  expected {code} and {expected:x?}\n  got {answer} and {monitor:x?}"
+            "{label}\n  users {users}, roles {roles}, policy {words:08x?}, rows {user_roles:04x?}
+  expected {code} and {expected:x?}\n  got {answer} and {monitor:x?}\n{place}"
         )
     });
 }

@@ -3,6 +3,7 @@
 
 use super::cases::{self, event, user_roles};
 use super::edges;
+use super::faults;
 use super::instances::{self, NamedInstance};
 use super::terms::{self, Style};
 use super::Random;
@@ -43,10 +44,11 @@ pub struct PolicyInput {
 
 /// A random input for reading and normal form; about half are accepted.
 pub fn policy_input(random: &mut Random) -> PolicyInput {
-    let case: Case = match random.below(4) {
+    let case: Case = match random.below(5) {
         0 => cases::misworded(random),
-        1 => cases::case(random, 16, 16, 50),
-        2 => cases::case(random, 3, 3, 50),
+        1 => cases::faulty(random),
+        2 => cases::case(random, 16, 16, 50),
+        3 => cases::case(random, 3, 3, 50),
         _ => {
             let base = cases::case(random, 3, 2, 80);
             cases::equal_case(random, &base)
@@ -110,9 +112,10 @@ fn counts(random: &mut Random, users: usize, actions: usize) -> [u8; 16] {
 
 /// A random input for the multiset test.
 pub fn multiset_input(random: &mut Random) -> MultisetInput {
-    let case = match random.below(10) {
+    let case = match random.below(11) {
         0 => cases::misworded(random),
-        1..=3 => cases::case(random, 5, 3, 70),
+        1 => cases::faulty(random),
+        2..=4 => cases::case(random, 5, 3, 70),
         _ => cases::rich_case(random),
     };
     let actions = random.pick(&[0, 1, 2, 2, 3, 3, 4, 5, 6, 12, 13]);
@@ -162,6 +165,23 @@ pub fn multiset_edges() -> Vec<(&'static str, MultisetInput)> {
         ("8,191 words", MultisetInput { workspace: 8191, ..full.clone() }),
         ("8,193 words", MultisetInput { workspace: 8193, ..full }),
     ]
+}
+
+/// The multiset test under each policy with a fault, where 7 would apply too: as it is, with no user
+/// declared, and with a workspace that is too short.
+pub fn faulty_multisets() -> Vec<(String, MultisetInput)> {
+    let mut counts = [0; 16];
+    counts[3] = 1;
+    let mut found = Vec::new();
+    for (name, words) in faults::edges() {
+        for (users, workspace) in [(3, 8192), (0, 8192), (3, 8191)] {
+            let user_roles = vec![2, 5, 4];
+            let words = words.clone();
+            let input = MultisetInput { users, roles: 3, words, user_roles, counts, workspace };
+            found.push((format!("{name}, {users} users, workspace of {workspace}"), input));
+        }
+    }
+    found
 }
 
 /// Input for one event on a raw instance, and for its status.
@@ -255,6 +275,7 @@ pub fn enabled_edges(random: &mut Random) -> Vec<(String, EnabledInput)> {
     let mut named = instances::malformed(random);
     named.extend(instances::odd_but_well_formed(random));
     named.extend(instances::acting_in_turn());
+    named.push(instances::last_acted());
     let mut found = Vec::new();
     for (name, instance) in named {
         let workspace = workspace_length(random);

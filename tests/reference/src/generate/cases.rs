@@ -1,14 +1,24 @@
 //! Random cases and damaged case files.
 
 use super::terms::{self, Style};
-use super::{NamedFile, Random};
+use super::{faults, NamedFile, Random};
 use crate::casefile::{write_case, Case};
 use crate::examples::{action, grant, revoke, CLOSE};
 use crate::policy::Operator;
 
 /// The kinds of random case files, in turn.
-const KINDS: [&str; 9] =
-    ["plain", "leaning", "small", "chain", "equal", "rich", "damaged", "misworded", "wide"];
+const KINDS: [&str; 10] = [
+    "plain",
+    "leaning",
+    "small",
+    "chain",
+    "equal",
+    "rich",
+    "damaged",
+    "misworded",
+    "faulty",
+    "wide",
+];
 
 /// A random case file of the kind whose turn it is; its name says the kind.
 pub fn random_file(random: &mut Random, turn: usize) -> NamedFile {
@@ -28,6 +38,7 @@ pub fn random_file(random: &mut Random, turn: usize) -> NamedFile {
             damaged(random, &write_case(&base))
         }
         "misworded" => write_case(&misworded(random)),
+        "faulty" => write_case(&faulty(random)),
         _ => write_case(&case(random, 16, 16, 70)),
     };
     (kind.to_string(), bytes)
@@ -146,6 +157,20 @@ pub fn misworded(random: &mut Random) -> Case {
             _ if random.percent(50) => case.users = random.pick(&[0, 1, 2, 5, 16, 17, 255]),
             _ => case.roles = random.pick(&[0, 1, 2, 5, 16, 17, 255]),
         }
+    }
+    case
+}
+
+/// A random case whose policy is refused by 1 to 4; in some also the counts or the rows.
+pub fn faulty(random: &mut Random) -> Case {
+    let mut case = case(random, 16, 16, 50);
+    let style = Style { users: case.users.into(), roles: case.roles.into(), lean: 50 };
+    case.policy = faults::random_policy(random, style).words;
+    match random.below(20) {
+        0 => case.users = random.pick(&[0, 17, 255]),
+        1 => case.roles = random.pick(&[0, 17, 255]),
+        2 => case.user_roles.push(0),
+        _ => {}
     }
     case
 }

@@ -1,7 +1,7 @@
 //! Case files at the edges of what 01 allows, and at least one for every refusal number that a
 //! case file can bring about.
 
-use super::NamedFile;
+use super::{faults, NamedFile};
 use crate::casefile::{join_parts, write_case, Case};
 use crate::examples::{action, grant, revoke, CLOSE, LISTING_L};
 use crate::policy::{Operator, Term};
@@ -135,6 +135,12 @@ fn wrong_terms() -> Vec<NamedFile> {
     policies.into_iter().map(file).collect()
 }
 
+/// Policies with faults at every place of interest.
+fn faulty_policies() -> Vec<NamedFile> {
+    let file = |(name, words): (String, Vec<u32>)| with(&name, |case| case.policy = words);
+    faults::edges().into_iter().map(file).collect()
+}
+
 /// Rows of roles that are too few, too many, or name undeclared roles.
 fn user_roles() -> Vec<NamedFile> {
     vec![
@@ -161,6 +167,7 @@ fn orders() -> Vec<NamedFile> {
         both("5 before 1", 0, &[], &[1, 2, 4]),
         both("5 before 2", 17, &[0], &[1, 2, 4]),
         both("5 before 3", 17, &[0x05000000], &[1, 2, 4]),
+        both("5 before 4", 0, &[0x04000000, 0x05000000, 0x01000000], &[]),
         both("5 before 6", 17, &[0x01000000], &[0x8000]),
         both("1 before 2", 3, &[0; 32], &[1, 2, 4]),
         both("1 before 6", 3, &[], &[]),
@@ -331,6 +338,7 @@ pub fn all() -> Vec<NamedFile> {
         counts(),
         damaged_words(),
         wrong_terms(),
+        faulty_policies(),
         user_roles(),
         orders(),
         damaged_events(),

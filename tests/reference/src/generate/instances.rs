@@ -91,6 +91,14 @@ pub fn acting_in_turn() -> Vec<NamedInstance> {
     found
 }
 
+/// Three users who are alike, of whom the last has acted: only the others may act now.
+pub fn last_acted() -> NamedInstance {
+    let policy = Term::join(Operator::Apart, Term::Role(0), Term::Role(0));
+    let mut raw = opened(3, &policy, &[1]);
+    raw.step(action(2));
+    ("three users alike, the last of whom acted".to_string(), raw)
+}
+
 /// The instance with one bit of one field flipped.
 pub fn flipped(random: &mut Random, instance: RawInstance) -> RawInstance {
     let mut raw = instance;

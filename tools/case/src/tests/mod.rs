@@ -3,6 +3,7 @@
 mod arguments;
 mod faults;
 mod files;
+mod marks;
 mod mutations;
 mod policies;
 mod recipes;

@@ -64,8 +64,9 @@ fn the_counts_and_the_policy_are_enough() {
 fn refused_policies_have_no_words() {
     for verb in [Verb::Normal, Verb::Words(Language::C), Verb::Words(Language::Rust)] {
         let refused = printed(verb, &with_policy("plus together(everyone, everyone)"));
-        let expected = "refused 4: not or plus over a term that is no unit term";
-        assert_eq!(refused, Err(expected.to_string()));
+        let told = refused.expect_err("it is refused");
+        assert!(told.starts_with("line 3: refused 4 at 0: this not or plus stands over"), "{told}");
+        assert!(told.ends_with("\n  plus together(everyone, everyone)\n  ^^^^"), "{told}");
     }
     let case = policy_alone(&with_policy("word 0x02000009")).expect("text");
     assert_eq!(monitor::normal_form(&case).map_err(|refused| refused.number), Err(2));

@@ -1,4 +1,4 @@
--- The read's number is the opening's; an accepted read leaves the configuration to decide.
+-- The read's code is the opening's; an accepted read leaves the configuration to decide.
 use mathlib.Core.Path.{_≡_, sym, ap, _∙_}
 use Prim.Native.Nat.{ℕ}
 use native.Mathlib.Omega.{arith}
@@ -6,12 +6,14 @@ use borrow.Author.Needs.{needs}
 use borrow.Author.Tests.{le-leb}
 use lib.ListN.{length, take}
 use lib.Seq.{take-length, length-take-le}
-use Rattle.policy.specs.Reading.{numberOf, readPolicy}
+use Rattle.policy.specs.Reading.{codeRead, readPolicy}
+use Rattle.policy.specs.declared.Code.{Code}
+use Rattle.policy.specs.declared.Code.the-variants.{Plain}
 use Rattle.policy.specs.declared.PolicyRead.the-variants.{Refused}
 use Rattle.instance.specs.declared.Configured.{Configured}
 use Rattle.instance.proofs.Formed.{policy-ok, words-few}
 use Rattle.monitor.specs.Monitors.{Opening, given, openCode, fresh}
-use Rattle.monitor.proofs.Opening.{IsRead, read-refused, read-accepted, code-refused, configuration-code, configuration-given, opening-refused, opening-accepted}
+use Rattle.monitor.proofs.Opening.{IsRead, read-accepted, code-refused, code-plain, configuration-code, configuration-given, opening-refused, opening-accepted}
 use Rattle.monitor.proofs.Monitor.open.Statement.{statement}
 use Rattle.monitor.proofs.Monitor.open.Tie as tie
 
@@ -27,10 +29,11 @@ returns c =
     let t = c .before .before in
     let r = t .before .before in
     let o = asked (start r) in
-    let k : ℕ = t .enum-told .given .0 .0 in
+    let k : Code = t .enum-told .given .0 .0 in
     let e : readPolicy (o .users) (o .roles) (o .words) ≡ Refused k = sym (r .read .ensures) ∙ t .enum-told .given .1 in
-    let n : c .before .number-of .result ≡ k = c .before .number-of .ensures ∙ ap numberOf (t .enum-told .given .1) in
-    (rw n at (c .refused .ensures)) ∙ opening-refused o k (read-refused (o .users) (o .roles) (o .words) k e .1) (code-refused o k e)
+    let n : c .before .code-of .result ≡ k = c .before .code-of .ensures ∙ ap codeRead (t .enum-told .given .1) in
+    let d = code-refused o k e in
+    c .refused .ensures ∙ opening-refused o (c .before .code-of .result) (n ∙ d .0) (d .1)
 
 -- an accepted read, and what the configuration then answers
 module _ (c : tie.After-open) where
@@ -55,7 +58,9 @@ returns-2 : tie.Need-returns-2
 returns-2 c =
     let t = c .before in
     let o = opens (t .before) in
-    c .refused2 .ensures ∙ opening-refused o (t .before .«open» .result .code) (t .if1 .taken) (sym (number (t .before)))
+    let n = number (t .before) in
+    let d = read-is (t .before) .clear-read in
+    c .refused2 .ensures ∙ opening-refused o (Plain (t .before .«open» .result .code)) (ap Plain n ∙ sym (code-plain o d)) (λ z. t .if1 .taken (n ∙ z))
 
 slice-aggregate-under : tie.Need-slice-aggregate-under
 slice-aggregate-under c =
