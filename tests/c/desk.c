@@ -36,7 +36,7 @@ int main(void)
     uint16_t enabled = 0; /* bit u for user u */
     uint8_t place = 0;
 
-    if (oskhrein_layout() != OSKHREIN_LAYOUT)
+    if (oskhrein_version() != OSKHREIN_VERSION)
         return 1; /* the library is not this header's */
     if (oskhrein_open(&quote, 2, 2, policy, 3, roles, 2, &place) != OSKHREIN_ACCEPTED)
         return 1; /* with 1 to 4, place says which word of the policy is at fault */
