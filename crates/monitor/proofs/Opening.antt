@@ -19,7 +19,7 @@ use Rattle.policy.specs.declared.PolicyRead.{PolicyRead}
 use Rattle.policy.specs.declared.PolicyRead.the-variants.{Accepted, Refused}
 use Rattle.policy.proofs.Refusals.{clear, code-front, code-behind}
 use Rattle.instance.specs.Configurations.{rowsOk, rowRefusals, configurationOf, givenConfiguration}
-use Rattle.monitor.specs.Monitors.{Opening, blank, openRefusals, openCode, fresh, opened, opening}
+use Rattle.monitor.specs.Monitors.{Opening, codeIn, blank, openRefusals, openCode, fresh, opened, opening}
 use Rattle.monitor.specs.Laws.{OpenedIsFresh}
 
 -- what an accepted read says
@@ -59,24 +59,20 @@ module _ (o : Opening) where
   abbrev pub rows-refusal : Refusals
   rows-refusal = rowRefusals (o .users) (o .roles) (o .rows)
 
-  -- the code that goes with a number
-  abbrev pub codeIn : ℕ → Code
-  codeIn k = codeAt (o .users) (o .roles) (o .words) k
-
   -- the code of an opening
-  pub code-refused : (c : Code) → readPolicy (o .users) (o .roles) (o .words) ≡ Refused c → (c ≡ codeIn (openCode o)) × (openCode o ≢ 0)
+  pub code-refused : (c : Code) → readPolicy (o .users) (o .roles) (o .words) ≡ Refused c → (c ≡ codeIn o (openCode o)) × (openCode o ≢ 0)
   unfolding openRefusals
   code-refused c e =
       let r = read-refused (o .users) (o .roles) (o .words) c e in
       let f = code-front policy-refusals rows-refusal (r .1) in
-      (r .0 ∙ ap codeIn (sym f), λ z. r .1 (sym f ∙ z))
+      (r .0 ∙ ap (codeIn o) (sym f), λ z. r .1 (sym f ∙ z))
 
   pub code-accepted : Clear policy-refusals → openCode o ≡ cond (rowsOk (o .users) (o .roles) (o .rows)) 0 ROWS
   unfolding openRefusals
   code-accepted h = code-behind policy-refusals rows-refusal h ∙ by-test (rowsOk (o .users) (o .roles) (o .rows)) (λ p. rw p) (λ p. rw p)
 
   -- 6 and 0 have no place
-  pub code-plain : Clear policy-refusals → codeIn (openCode o) ≡ Plain (openCode o)
+  pub code-plain : Clear policy-refusals → codeIn o (openCode o) ≡ Plain (openCode o)
   unfolding codeAt
   code-plain h = rw (code-accepted h) (by-test (rowsOk (o .users) (o .roles) (o .rows)) (λ p. rw p) λ p. rw p)
 
@@ -93,7 +89,7 @@ module _ (o : Opening) where
   configuration-given e = rw e
 
   -- what an opening gives, by its number
-  pub opening-refused : (c : Code) → c ≡ codeIn (openCode o) → openCode o ≢ 0 → record { code = c; monitor = blank } ≡ opening o
+  pub opening-refused : (c : Code) → c ≡ codeIn o (openCode o) → openCode o ≢ 0 → record { code = c; monitor = blank } ≡ opening o
   unfolding opened
   opening-refused c e ne = rw (e, ne-eqb (openCode o) 0 ne)
 

@@ -9,6 +9,7 @@ use Rattle.policy.specs.Refusals.{_gives_, code}
 use Rattle.policy.specs.Words.{decode, termOf}
 use Rattle.policy.specs.Faults.{codeAt}
 use Rattle.policy.specs.Reading.{refusals}
+use Rattle.policy.specs.declared.Code.{Code}
 use Rattle.monitor.specs.declared.Monitor.{Monitor}
 use Rattle.monitor.specs.declared.Opened.{Opened}
 use Rattle.instance.specs.Configurations.{noConfiguration, configurationOf, rowRefusals, configurationOk}
@@ -36,6 +37,10 @@ openRefusals o = refusals (o .users) (o .roles) (o .words) ++ rowRefusals (o .us
 abbrev pub openCode : Opening → ℕ
 openCode o = code (openRefusals o)
 
+-- the code of a call that is given so much and answers this number: 1 to 4 with the place of the policy's fault (02, E2)
+abbrev pub codeIn : Opening → ℕ → Code
+codeIn o k = codeAt (o .users) (o .roles) (o .words) k
+
 -- the blank sheet, all zero
 unfoldable pub blank : Monitor
 blank = record { configuration = noConfiguration; instance = noInstance }
@@ -48,9 +53,8 @@ fresh o = record { configuration = configurationOf (o .users) (o .roles) (o .row
 unfoldable pub opened : Opening → Monitor
 opened o = cond (eqb (openCode o) 0) (fresh o) blank
 
--- what it answers: the code, with the place of a policy's fault, and the monitor
 abbrev pub opening : Opening → Opened
-opening o = record { code = codeAt (o .users) (o .roles) (o .words) (openCode o); monitor = opened o }
+opening o = record { code = codeIn o (openCode o); monitor = opened o }
 
 -- ── number 15: exactly 01's list ──
 abbrev pub wellFormed : Monitor → Bool

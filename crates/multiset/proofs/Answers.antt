@@ -23,10 +23,9 @@ use Rattle.policy.proofs.Places.{others-have-none}
 use Rattle.workspace.specs.Workspace.{filled}
 use Rattle.workspace.proofs.Fillable.{policy-is-filled}
 use Rattle.instance.specs.Configurations.{isZero}
-use Rattle.monitor.specs.Monitors.{Opening, policy, openRefusals, openCode}
+use Rattle.monitor.specs.Monitors.{Opening, policy, openRefusals, openCode, codeIn}
 use Rattle.instance.proofs.Formed.{one-each}
 use Rattle.monitor.proofs.Formed.{opened-rows-ok, opened-is-policy}
-use Rattle.monitor.proofs.Opening.{codeIn}
 use Rattle.multiset.specs.MultisetTest.{verdictCode, verdictLetter, total, listed, notedBy, testRefusals, testCode, testOf, Numbered}
 use Rattle.multiset.specs.Private.{Counted, used, Holds, Fillable}
 use Rattle.multiset.specs.declared.Actions.{Actions}

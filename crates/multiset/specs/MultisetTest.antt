@@ -12,13 +12,12 @@ use Rattle.soda.specs.Multisets.{multiset}
 use Rattle.soda.specs.declared.Action.{Action}
 use Rattle.policy.specs.Codes.{ACCEPTED, MALFORMED, FULL, WORKSPACE}
 use Rattle.policy.specs.Refusals.{_gives_, code}
-use Rattle.policy.specs.Faults.{codeAt}
 use Rattle.policy.specs.declared.Code.{Code}
 use Rattle.policy.specs.declared.Code.the-variants.{Plain}
 use Rattle.workspace.specs.Workspace.{filled}
 use Rattle.instance.specs.Configurations.{isZero}
 use Rattle.instance.specs.Instances.{noted}
-use Rattle.monitor.specs.Monitors.{Opening, policy, openRefusals}
+use Rattle.monitor.specs.Monitors.{Opening, policy, openRefusals, codeIn}
 use Rattle.multiset.specs.declared.Verdict.{Verdict}
 use Rattle.multiset.specs.declared.Verdict.the-variants.{Yes, No, Refused}
 
@@ -62,14 +61,14 @@ testRefusals o counts n =
 abbrev pub testCode : Opening → List ℕ → ℕ → ℕ
 testCode o counts n = code (testRefusals o counts n)
 
--- the code, with the place of a policy's fault, and the letter: yes exactly when the actions satisfy the policy; their order plays no part (`TestIsMultiset` of claims)
+-- the code and the letter: yes exactly when the actions satisfy the policy; their order plays no part (`TestIsMultiset` of claims)
 pub record TestOutcome : Type 0 where
   pub code : Code
   pub letter : ℕ
 
 unfoldable pub testOf : Opening → List ℕ → ℕ → TestOutcome
 testOf o counts n = record {
-  code = codeAt (o .users) (o .roles) (o .words) (testCode o counts n);
+  code = codeIn o (testCode o counts n);
   letter = cond (eqb (testCode o counts n) 0) (cond (satisfied (policy o) 0 (map (notedBy o) (listed 0 counts))) letterY letterN) 0;
 }
 

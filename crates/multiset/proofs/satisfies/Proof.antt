@@ -17,9 +17,8 @@ use Rattle.policy.specs.Faults.{codeNumber}
 use Rattle.policy.proofs.Places.{code-has-number}
 use Rattle.workspace.specs.Workspace.{filled}
 use Rattle.instance.specs.Configurations.{isZero}
-use Rattle.monitor.specs.Monitors.{Opening, given, policy, openCode}
+use Rattle.monitor.specs.Monitors.{Opening, given, policy, openCode, codeIn}
 use Rattle.monitor.specs.declared.Opened.{Opened}
-use Rattle.monitor.proofs.Opening.{codeIn}
 use Rattle.multiset.specs.MultisetTest.{total, listed, notedBy, testRefusals, testCode}
 use Rattle.multiset.proofs.Listed.{total-zero}
 use Rattle.multiset.proofs.Answers.{counted, fillable, code-opening, code-own, refused-test, refused-plain, yes-test, no-test}

@@ -1,6 +1,5 @@
 -- The bytes with the number, and one byte behind them.
-use mathlib.Core.List.{List, [], _∷_, _++_}
-use Prim.Native.Nat.{ℕ}
+use mathlib.Core.List.{[], _∷_, _++_}
 use borrow.Author.Needs.{needs}
 use Rattle.casefile.specs.Texts.{decimal}
 use Rattle.casefile.proofs.Writing.{room-first, room-behind, put-behind}

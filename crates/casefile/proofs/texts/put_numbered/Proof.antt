@@ -1,6 +1,4 @@
 -- The bytes, and the number behind them.
-use mathlib.Core.List.{List}
-use Prim.Native.Nat.{ℕ}
 use borrow.Author.Needs.{needs}
 use Rattle.casefile.specs.Texts.{decimal}
 use Rattle.casefile.proofs.Writing.{room-first, room-behind, put-behind}
