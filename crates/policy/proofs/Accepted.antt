@@ -44,7 +44,7 @@ lastRefusals x = (not (isTerm x) gives TERM) ∷ (not (isFormed x) gives UNIT) �
 
 module _ (users roles : ℕ) (ws : List ℕ) where
   -- in the layout, the last two tests decide
-  pub last-two : InLayout users roles ws → readPolicy users roles ws ≡ answer users roles ws (code (lastRefusals (decode ws)))
+  last-two : InLayout users roles ws → readPolicy users roles ws ≡ answer users roles ws (code (lastRefusals (decode ws)))
   unfolding readPolicy
   last-two p = rw (p .counts, p .long, p .layout)
 
@@ -100,7 +100,7 @@ module _ (users roles : ℕ) (ws : List ℕ) where
       λ b. rw (is-long a b) (too-long a b))
       λ a. rw (is-miscounted a) (miscounted a)
 
-  pub never : {P : Type 0} {c : Code} {n m : ℕ} → Refused c ≡ Accepted n m → P
+  never : {P : Type 0} {c : Code} {n m : ℕ} → Refused c ≡ Accepted n m → P
   never q = absurd (let z : _≡_ {A = ℕ} 0 1 = cc in omega arith)
 
   read-none : {r : PolicyRead} → Read r → numberOf r ≡ TERM → InLayout users roles ws × (decode ws ≡ none)
