@@ -1,6 +1,6 @@
 -- The multiset test's refusals in order, and its answers; the workspace can be filled for a multiset's actions.
 use mathlib.Core.Path.{_≡_, refl, sym, ap, _∙_}
-use mathlib.Core.Logic.{_≢_}
+use mathlib.Core.Logic.{inr, _≢_}
 use mathlib.Core.Bool.{true, false, So, not}
 use mathlib.Core.List.{List, [], _∷_, _++_, map}
 use Prim.Native.Nat.{ℕ, _≤_, _<_}
@@ -89,7 +89,7 @@ module _ (o : Opening) (counts : List ℕ) where
 
     -- a number that is not the policy author's
     pub refused-plain : (k : ℕ) → UNIT < k → testCode o counts (length before) ≡ k → Answered (Refused (Plain k)) before
-    refused-plain k h e = refused-test (Plain k) k (λ z. omega arith) (sym (others-have-none (o .users) (o .roles) (o .words) k h)) e
+    refused-plain k h e = refused-test (Plain k) k (λ z. omega arith) (sym (others-have-none (o .users) (o .roles) (o .words) k (inr h))) e
 
     module _ (after : List ℕ) (e : testCode o counts (length before) ≡ 0)
         (f : after ≡ filled (policy o) (map (notedBy o) (listed 0 counts)) before) where

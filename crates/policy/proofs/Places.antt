@@ -1,43 +1,38 @@
 -- What each refusal's place says of the words.
 use mathlib.Core.Path.{_≡_, refl, sym, _∙_, ap}
+use mathlib.Core.Logic.{_⊎_, inl, inr}
 use mathlib.Core.Bool.{Bool, false, So, _&&_, true≢false, and-false}
 use mathlib.Core.List.{List, [], _∷_, _++_}
 use mathlib.Core.Option.{Option, some, none}
-use Prim.Native.Nat.{ℕ, _≤_, _<_}
+use Prim.Native.Nat.{ℕ, zero, suc, _+_, _≤_, _<_}
 use native.Mathlib.Omega.{arith}
 use lib.Dec.{leb, eqb}
-use lib.ListN.{length, drop, length-append}
-use borrow.Author.Tests.{le-leb, lt-leb, eqb-true, eqb-false, ne-eqb}
+use lib.ListN.{length, take, drop, replicate, length-append, take-append-drop}
+use lib.Seq.{take-append-seam, take-append-le}
+use borrow.Author.Tests.{le-leb, lt-leb, eqb-true, eq-eqb}
 use Rattle.soda.specs.Lists.{all, firstFailing}
 use Rattle.soda.specs.Terms.{Term, everyone, role, set, ¬ᵗ_, _⁺, bin, unit, wellFormed, size, subterms}
-use Rattle.soda.specs.Words.{encode, fits}
-use Rattle.soda.proofs.Bools.{by-test, and-join}
-use Rattle.soda.proofs.Lists.{failing-most, first-fails, failing-stays, first-is-first, none-fails}
+use Rattle.soda.specs.Words.{word, encode, fits}
+use Rattle.soda.proofs.Bools.{never, by-test, and-split, and-join, lt-or-le}
+use Rattle.soda.proofs.Splits.{all-append, all-replicate}
+use Rattle.soda.proofs.Lists.{failing-most, one-fails, fails-inside, first-fails, failing-stays, first-is-first}
 use Rattle.soda.proofs.Terms.{subterms-length}
 use Rattle.policy.specs.Codes.{WORD-COUNT, WORD, TERM, UNIT}
-use Rattle.policy.specs.Words.{wordOk, first, decode}
+use Rattle.policy.specs.Words.{kind, operand, kindOf, wordOk, head, push, row, first, decode}
 use Rattle.policy.specs.Faults.{leftOver, overUnit, isFault, codeAt}
 use Rattle.policy.specs.Refusals.{code}
-use Rattle.policy.specs.Reading.{countOk, lengthOk, refusals, readPolicy}
+use Rattle.policy.specs.Reading.{countOk, lengthOk, isTerm, refusals, readPolicy}
 use Rattle.policy.specs.Accepted.{InLayout, WordsOf}
-use Rattle.policy.specs.Places.{OneIsAtStart, FirstBad, TwoIsFirst, TermEnds, more, runsOut, ThreeIsBehind, FirstNotOver, FourIsFirst, FormedIsOver, PlaceInRange, TwoStays, AcceptedIsFaultless, CountsHaveNone, CodeHasNumber, OthersHaveNone, CodeOfRead}
+use Rattle.policy.specs.Places.{OneIsAtStart, FirstBad, TwoIsFirst, TermEnds, more, runsOut, ThreeIsBehind, FirstNotOver, FourIsFirst, RunOutIsUnfinished, FormedIsOver, PlaceInRange, TwoStays, AcceptedIsFaultless, CountsHaveNone, CodeHasNumber, FaultsHaveOne, OthersHaveNone, CodeOfRead}
 use Rattle.policy.specs.declared.Code.the-variants.{Fault}
 use Rattle.policy.specs.declared.PolicyRead.{PolicyRead}
 use Rattle.policy.specs.declared.PolicyRead.the-variants.{Accepted, Refused}
-use Rattle.policy.proofs.Grammar.{Begins, row-begins, begins, no, decode-missing, decode-whole, decode-more}
+use Rattle.policy.proofs.Layouts.{no-kind}
+use Rattle.policy.proofs.Grammar.{Row, row1, row2, row3, row4, row5, rowOp, row-of, push-op, decode-first, Begins, row-begins, begins, no, decode-missing, decode-whole, decode-more}
 use Rattle.policy.proofs.Scanning.{length-range}
 use Rattle.policy.proofs.Encoding.{spelt, fits-begins, begins-encode}
 use Rattle.policy.proofs.Accepted.{decodes, decode-is-encode, Read, miscounted, too-long, bad-word, no-term, not-formed, formed, reads, is-miscounted, is-long, is-bad, is-none, is-ill}
 use Rattle.policy.proofs.Faults.{left-over-most, length-decoded}
-
--- ── the first that fails, of a list where one does ──
-one-fails : {A : Type 0} (f : A → Bool) (l : List A) → all f l ≡ false → firstFailing f l < length l
-one-fails f l e =
-    let z = eqb-false (firstFailing f l) (length l) (sym (none-fails _ f l) ∙ e) in
-    omega (arith, failing-most f l)
-
-fails-inside : {A : Type 0} (f : A → Bool) (l : List A) (p : ℕ) → p < length l → firstFailing f l ≡ p → all f l ≡ false
-fails-inside f l p h e = none-fails _ f l ∙ ne-eqb (firstFailing f l) (length l) (λ z. omega arith)
 
 -- ── a policy's faults ──
 module _ (users roles : ℕ) (ws : List ℕ) where
@@ -91,21 +86,22 @@ two-is-first users roles ws p = (λ q. to (fault users roles ws q), back)
         is-bad users roles ws (h .counts) (h .long) (fails-inside (wordOk users roles) ws p (h .inside) e) ∙ ap (λ n. Refused (Fault WORD n)) e
 
 -- ── 3 ──
+-- words that are a term's and more begin with that term
+begun : (ws : List ℕ) (φ : Term) (rest : List ℕ) → ws ≡ encode φ ++ rest → So (fits φ) → Begins ws φ rest
+begun ws φ rest e f = rw e (begins-encode φ rest f)
+
+begun-first : {ws rest : List ℕ} {φ : Term} → Begins ws φ rest → first ws ≡ some φ
+begun-first b = rw (row-begins b)
+
 pub three-is-behind : ThreeIsBehind
 three-is-behind users roles ws p = (λ q. to (fault users roles ws q), λ h. back (h .0) (h .1))
   where
-    begun : (φ : Term) (rest : List ℕ) → ws ≡ encode φ ++ rest → So (fits φ) → Begins ws φ rest
-    begun φ rest e f = rw e (begins-encode φ rest f)
-
-    begun-first : {φ : Term} {rest : List ℕ} → Begins ws φ rest → first ws ≡ some φ
-    begun-first b = rw (row-begins b)
-
     behind : (φ : Term) (rest : List ℕ) → InLayout users roles ws → decode ws ≡ none → Begins ws φ rest → TermEnds ws (size φ)
     behind φ [] i d b = no (sym d ∙ decode-whole b)
     behind φ (w ∷ rest) i d b = more φ w rest (spelt users roles b (i .layout) .words) (fits-begins b)
 
     ends : (x : Option Term) → first ws ≡ x → InLayout users roles ws → decode ws ≡ none → TermEnds ws (leftOver x (length ws))
-    ends none e i d = runsOut (λ φ rest s f. no (sym e ∙ begun-first (begun φ rest s f)))
+    ends none e i d = runsOut (λ φ rest s f. no (sym e ∙ begun-first (begun ws φ rest s f)))
     ends (some φ) e i d = behind φ (drop (size φ) ws) i d (begins ws φ e)
 
     to : Faulty users roles ws TERM p → InLayout users roles ws × TermEnds ws p
@@ -122,17 +118,108 @@ three-is-behind users roles ws p = (λ q. to (fault users roles ws q), λ h. bac
 
     back : {q : ℕ} → InLayout users roles ws → TermEnds ws q → readPolicy users roles ws ≡ Refused (Fault TERM q)
     back i (more φ w rest e f) =
-        let b = begun φ (w ∷ rest) e f in
+        let b = begun ws φ (w ∷ rest) e f in
         is-none users roles ws i (decode-more b) ∙ ap (λ (x : Option Term). Refused (Fault TERM (leftOver x (length ws)))) (begun-first b)
     back i (runsOut n) =
         let m = missing i n (first ws) refl in
         is-none users roles ws i (decode-missing ws m) ∙ ap (λ (x : Option Term). Refused (Fault TERM (leftOver x (length ws)))) m
 
--- ── 4 ──
-all-append : {A : Type 0} (f : A → Bool) (l m : List A) → all f (l ++ m) ≡ (all f l && all f m)
-all-append f [] m = refl
-all-append f (x ∷ l) m = by-test (f x) (λ e. rw e (all-append f l m)) λ e. rw e
+-- where the words run out: with enough everyones behind them, every term of the row is whole
+abbrev EVERYONE-WORD : ℕ
+EVERYONE-WORD = word 1 0
 
+record Filled (n : ℕ) (ts : List (Option Term)) : Type 0 where
+  whole : So (all isTerm ts)
+  many : n ≤ length ts
+
+everyones : (n : ℕ) → Filled n (row (replicate n EVERYONE-WORD))
+everyones zero = record { whole = refl; many = omega arith }
+everyones (suc n) = let f = everyones n in record { whole = f .whole; many = omega (arith, f .many) }
+
+-- a word takes two terms at most, and gives one
+pushed : {k m : ℕ} (n x : ℕ) → Row k m → (ts : List (Option Term)) → 1 ≤ n → Filled (suc n) ts → Filled n (push (kindOf k) x ts)
+pushed n x r [] l f = absurd (omega (arith, f .many))
+pushed n x r (t ∷ []) l f = absurd (omega (arith, f .many))
+pushed n x r (none ∷ u ∷ ts) l f = never (f .whole)
+pushed n x r (some a ∷ none ∷ ts) l f = never (f .whole)
+pushed n x row1 (some a ∷ some b ∷ ts) l f = record { whole = f .whole; many = omega (arith, f .many) }
+pushed n x row2 (some a ∷ some b ∷ ts) l f = record { whole = f .whole; many = omega (arith, f .many) }
+pushed n x row3 (some a ∷ some b ∷ ts) l f = record { whole = f .whole; many = omega (arith, f .many) }
+pushed n x row4 (some a ∷ some b ∷ ts) l f = record { whole = f .whole; many = omega (arith, f .many) }
+pushed n x row5 (some a ∷ some b ∷ ts) l f = record { whole = f .whole; many = omega (arith, f .many) }
+pushed n x (rowOp op) (some a ∷ some b ∷ ts) l f = rw push-op (record { whole = f .whole; many = omega (arith, f .many) })
+
+filled : (users roles : ℕ) (ws : List ℕ) (n : ℕ) → So (all (wordOk users roles) ws) → 1 ≤ n
+    → Filled n (row (ws ++ replicate (n + length ws) EVERYONE-WORD))
+filled users roles [] n h l = let z : n + 0 ≡ n = omega arith in rw z (everyones n)
+filled users roles (w ∷ ws) n h l = elim (row-of (kind w)) [
+  | inl r ↦ pushed n (operand w) (r .1) (row (ws ++ replicate (n + suc (length ws)) EVERYONE-WORD)) l (rw z at (filled users roles ws (suc n) (s .1) (omega arith)))
+  | inr r ↦ absurd (true≢false (sym (s .0) ∙ no-kind users roles w (r .0)))
+]
+  where
+    s : So (wordOk users roles w) × So (all (wordOk users roles) ws)
+    s = and-split (wordOk users roles w) (all (wordOk users roles) ws) h
+
+    z : suc n + length ws ≡ n + suc (length ws)
+    z = omega arith
+
+-- so they begin with a term, whose words begin with these
+unfinished : (users roles : ℕ) (ws : List ℕ) → So (all (wordOk users roles) ws) → first ws ≡ none
+    → (φ : Term) × (vs : List ℕ) × WordsOf φ (ws ++ vs)
+unfinished users roles ws h e = go (row more-words) refl (filled users roles ws 1 h (omega arith))
+  where
+    more-words : List ℕ
+    more-words = ws ++ replicate (1 + length ws) EVERYONE-WORD
+
+    ok-words : So (all (wordOk users roles) more-words)
+    ok-words = all-append (wordOk users roles) ws (replicate (1 + length ws) EVERYONE-WORD)
+        ∙ and-join (all (wordOk users roles) ws) (all (wordOk users roles) (replicate (1 + length ws) EVERYONE-WORD)) h
+        (all-replicate (wordOk users roles) (1 + length ws) EVERYONE-WORD refl)
+
+    -- a term no longer than the words would begin them
+    longer : (φ : Term) (rest : List ℕ) → more-words ≡ encode φ ++ rest → So (fits φ) → length ws ≤ length (encode φ)
+    longer φ rest s f = by (lt-or-le (length (encode φ)) (length ws))
+      where
+        by : (length (encode φ) < length ws) ⊎ (length ws ≤ length (encode φ)) → length ws ≤ length (encode φ)
+        by (inr l) = l
+        by (inl l) =
+            let n = length (encode φ) in
+            let t : take n ws ≡ encode φ = sym (take-append-le n ws (replicate (1 + length ws) EVERYONE-WORD) (omega arith)) ∙ ap (take n) s ∙ take-append-seam (encode φ) rest in
+            let q : ws ≡ encode φ ++ drop n ws = sym (take-append-drop n ws) ∙ ap (λ (p : List ℕ). p ++ drop n ws) t in
+            no (sym e ∙ begun-first (begun ws φ (drop n ws) q f))
+
+    go : (ts : List (Option Term)) → row more-words ≡ ts → Filled 1 ts → (φ : Term) × (vs : List ℕ) × WordsOf φ (ws ++ vs)
+    go [] r f = absurd (omega (arith, f .many))
+    go (none ∷ ts) r f = never (f .whole)
+    go (some φ ∷ ts) r f =
+        let n = length ws in
+        let b = begins more-words φ (ap head r) in
+        let s = spelt users roles b ok-words .words in
+        let l = longer φ (drop (size φ) more-words) s (fits-begins b) in
+        let t : ws ≡ take n (encode φ) = sym (take-append-seam ws (replicate (1 + n) EVERYONE-WORD)) ∙ ap (take n) s ∙ take-append-le n (encode φ) (drop (size φ) more-words) l in (
+          φ,
+          drop n (encode φ),
+          record {
+            written = ap (λ (p : List ℕ). p ++ drop n (encode φ)) t ∙ take-append-drop n (encode φ);
+            fit = fits-begins b;
+          },
+        )
+
+pub run-out-is-unfinished : RunOutIsUnfinished
+run-out-is-unfinished users roles ws q = go (fault users roles ws q)
+  where
+    by : (x : Option Term) → first ws ≡ x → length ws ≡ leftOver x (length ws) → InLayout users roles ws → decode ws ≡ none
+        → (φ : Term) × (vs : List ℕ) × WordsOf φ (ws ++ vs)
+    by none e p i d = unfinished users roles ws (i .layout) e
+    by (some φ) e p i d = no {φ = φ} (sym d ∙ decode-first ws φ e ∙ rw (eq-eqb (size φ) (length ws) (sym p)))
+
+    go : Faulty users roles ws TERM (length ws) → (φ : Term) × (vs : List ℕ) × WordsOf φ (ws ++ vs)
+    go (one k e a b) = absurd (omega arith)
+    go (two k e a b c) = absurd (omega arith)
+    go (three k e i d) = by (first ws) refl e i d
+    go (four k e i d f) = absurd (omega arith)
+
+-- ── 4 ──
 pub formed-is-over : FormedIsOver
 formed-is-over everyone = refl
 formed-is-over (role r) = refl
@@ -215,9 +302,14 @@ pub code-has-number : CodeHasNumber
 unfolding codeAt
 code-has-number users roles ws k = by-test (isFault k) (λ e. rw e) λ e. rw e
 
+pub faults-have-one : FaultsHaveOne
+unfolding codeAt
+faults-have-one users roles ws k l h = rw (le-leb WORD-COUNT k l, le-leb k UNIT h)
+
 pub others-have-none : OthersHaveNone
 unfolding codeAt
-others-have-none users roles ws k h = rw (lt-leb k UNIT h, and-false (leb WORD-COUNT k))
+others-have-none users roles ws k (inl h) = rw (lt-leb WORD-COUNT k h)
+others-have-none users roles ws k (inr h) = rw (lt-leb k UNIT h, and-false (leb WORD-COUNT k))
 
 pub code-of-read : CodeOfRead
 unfolding readPolicy codeAt

@@ -1,6 +1,6 @@
 -- What is proved of the place of a policy's fault (document 02, E2). Statements only.
 use mathlib.Core.Path.{_≡_}
-use mathlib.Core.Logic.{_↔_}
+use mathlib.Core.Logic.{_⊎_, _↔_}
 use mathlib.Core.Bool.{false, So, _&&_}
 use mathlib.Core.List.{List, _∷_, _++_}
 use Prim.Native.Nat.{ℕ, _+_, _≤_, _<_}
@@ -10,7 +10,7 @@ use Rattle.soda.specs.Terms.{Term, wellFormed, size, subterms, termAt}
 use Rattle.soda.specs.Words.{encode, fits}
 use Rattle.policy.specs.Codes.{WORD-COUNT, WORD, TERM, UNIT, COUNTS}
 use Rattle.policy.specs.Words.{wordOk}
-use Rattle.policy.specs.Faults.{overUnit, codeAt, codeNumber}
+use Rattle.policy.specs.Faults.{overUnit, placeOf, codeAt, codeNumber}
 use Rattle.policy.specs.Reading.{countOk, lengthOk, refusals, readPolicy, codeRead}
 use Rattle.policy.specs.Refusals.{code}
 use Rattle.policy.specs.Accepted.{InLayout, WordsOf}
@@ -46,6 +46,12 @@ abbrev pub ThreeIsBehind : Type 0
 ThreeIsBehind =
     (users roles : ℕ) (ws : List ℕ) (p : ℕ)
     → (readPolicy users roles ws ≡ Refused (Fault TERM p)) ↔ (InLayout users roles ws × TermEnds ws p)
+
+-- In the second case the words run out: some words behind them make a term.
+abbrev pub RunOutIsUnfinished : Type 0
+RunOutIsUnfinished =
+    (users roles : ℕ) (ws : List ℕ)
+    → readPolicy users roles ws ≡ Refused (Fault TERM (length ws)) → (φ : Term) × (vs : List ℕ) × WordsOf φ (ws ++ vs)
 
 -- 4 points at the first not or plus over a term that is no unit term: of the terms that begin at the words before it none is such.
 pub record FirstNotOver (φ : Term) (p : ℕ) : Type 0 where
@@ -86,12 +92,16 @@ abbrev pub CountsHaveNone : Type 0
 CountsHaveNone =
     (users roles : ℕ) (ws : List ℕ) → (countOk users && countOk roles) ≡ false → readPolicy users roles ws ≡ Refused (Plain COUNTS)
 
--- The code of a call has the call's number, and but for 1 to 4 no place.
+-- The code of a call has the call's number; 1 to 4 have the place that goes with it, and the others, 0 among them, have none.
 abbrev pub CodeHasNumber : Type 0
 CodeHasNumber = (users roles : ℕ) (ws : List ℕ) (k : ℕ) → codeNumber (codeAt users roles ws k) ≡ k
 
+abbrev pub FaultsHaveOne : Type 0
+FaultsHaveOne =
+    (users roles : ℕ) (ws : List ℕ) (k : ℕ) → WORD-COUNT ≤ k → k ≤ UNIT → codeAt users roles ws k ≡ Fault k (placeOf users roles ws k)
+
 abbrev pub OthersHaveNone : Type 0
-OthersHaveNone = (users roles : ℕ) (ws : List ℕ) (k : ℕ) → UNIT < k → codeAt users roles ws k ≡ Plain k
+OthersHaveNone = (users roles : ℕ) (ws : List ℕ) (k : ℕ) → (k < WORD-COUNT) ⊎ (UNIT < k) → codeAt users roles ws k ≡ Plain k
 
 -- The code of an answer is that of its number.
 abbrev pub CodeOfRead : Type 0

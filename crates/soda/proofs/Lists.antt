@@ -7,6 +7,7 @@ use native.Mathlib.Nat.{le-of-lt}
 use native.Mathlib.Omega.{arith}
 use native.Mathlib.Numerals.{add-one}
 use lib.Dec.{eqb·suc-suc, eqb·zero-suc}
+use borrow.Author.Tests.{eqb-false, ne-eqb}
 use lib.ListN.{length, getD, set, take, drop, replicate, length-drop, length-map}
 use lib.Seq.{drop-cons, ext-getD, take-all, take-suc, take-length, length-take-le, set-at, append-snoc}
 use Rattle.soda.specs.Lists.{all, firstFailing, range, padded}
@@ -40,6 +41,15 @@ first-is-first A f d l p h = (λ e. rw e at (fails-first f d l (rw e h)), λ a. 
 pub none-fails : NoneFails
 none-fails A f [] = refl
 none-fails A f (x ∷ l) = by-test (f x) (λ e. rw (e, eqb·suc-suc) (none-fails A f l)) λ e. rw (e, eqb·zero-suc)
+
+-- one fails exactly where the first that does stands inside
+pub one-fails : {A : Type 0} (f : A → Bool) (l : List A) → all f l ≡ false → firstFailing f l < length l
+one-fails f l e =
+    let z = eqb-false (firstFailing f l) (length l) (sym (none-fails _ f l) ∙ e) in
+    omega (arith, failing-most f l)
+
+pub fails-inside : {A : Type 0} (f : A → Bool) (l : List A) (p : ℕ) → p < length l → firstFailing f l ≡ p → all f l ≡ false
+fails-inside f l p h e = none-fails _ f l ∙ ne-eqb (firstFailing f l) (length l) (λ z. omega arith)
 
 -- from place i on: the element there fails, or one behind it
 module _ {A : Type 0} (f : A → Bool) (d : A) (l : List A) (i : ℕ) (h : i < length l) where

@@ -1,7 +1,7 @@
 -- Laws of tests over a list, and of the ways in which a list falls into two: the test `any` over `splits` is the relation `Split`.
 use mathlib.Core.Path.{_≡_, refl, sym, _∙_, ap}
 use mathlib.Core.Logic.{_⊎_, inl, inr}
-use mathlib.Core.Bool.{Bool, false, So, _&&_, _||_, or-assoc, or-false}
+use mathlib.Core.Bool.{Bool, false, So, _&&_, _||_, and-assoc, or-assoc, or-false}
 use mathlib.Core.List.{List, [], _∷_, _++_, map}
 use Prim.Native.Nat.{ℕ, zero, suc}
 use lib.ListN.{replicate}
@@ -11,6 +11,10 @@ use Rattle.soda.proofs.Bools.{and-split, and-join, or-split, or-left, o
 pub any-append : {A : Type 0} (f : A → Bool) (l m : List A) → any f (l ++ m) ≡ (any f l || any f m)
 any-append f [] m = refl
 any-append f (x ∷ l) m = ap (λ (b : Bool). f x || b) (any-append f l m) ∙ sym (or-assoc (f x) (any f l) (any f m))
+
+pub all-append : {A : Type 0} (f : A → Bool) (l m : List A) → all f (l ++ m) ≡ (all f l && all f m)
+all-append f [] m = refl
+all-append f (x ∷ l) m = ap (λ (b : Bool). f x && b) (all-append f l m) ∙ sym (and-assoc (f x) (all f l) (all f m))
 
 module _ {A B : Type 0} (g : A → B) (f : B → Bool) where
   pub any-map : (l : List A) → any f (map g l) ≡ any (λ x. f (g x)) l

@@ -1,6 +1,6 @@
 -- What stands in the tables: a set entered, and the sets of one action more.
 use mathlib.Core.Path.{_≡_, refl, sym, _∙_, ap, ap₂, subst}
-use mathlib.Core.Bool.{Bool, true, false, _&&_, _||_, and-true, and-assoc, or-false}
+use mathlib.Core.Bool.{Bool, true, false, _&&_, _||_, and-true, or-false}
 use mathlib.Core.List.{List, [], _∷_, _++_, map, Perm, Perm·refl}
 use mathlib.Core.Logic.{_⊎_, inl, inr}
 use Prim.Native.Nat.{ℕ, suc, _+_, _*_, _/_, _%_, _^_, _≤_, _<_}
@@ -19,7 +19,7 @@ use Rattle.soda.specs.Tables.{acts}
 use Rattle.soda.proofs.Bools.{same-test, eq-so, so-eq, lt-or-le}
 use Rattle.soda.proofs.Bits.{number-lt, bit-number, bit-of-zero}
 use Rattle.soda.proofs.Lists.{range-length, map-below}
-use Rattle.soda.proofs.Splits.{any-append}
+use Rattle.soda.proofs.Splits.{any-append, all-append}
 use Rattle.shape.specs.Shapes.{rightSides}
 use Rattle.rows.specs.Rows.{place, turnedRow, satisfiedIn, possibleIn}
 use Rattle.rows.specs.Notes.{noteOf, metIn, twinIn, usersIn}
@@ -206,10 +206,6 @@ pub written-all : {sets d a : List ℕ} (n m : ℕ) → n ≤ m → m ≤ n → 
 written-all {sets} {d} {a} n m h k w = let q : n ≡ m = omega arith in subst (λ x. Written x sets d a) q w
 
 -- ── one action more ──
-pub all-append : {A : Type 0} (f : A → Bool) (l m : List A) → all f (l ++ m) ≡ (all f l && all f m)
-all-append f [] m = refl
-all-append f (x ∷ l) m = ap (λ b. f x && b) (all-append f l m) ∙ sym (and-assoc (f x) (all f l) (all f m))
-
 eqb-swap : (m n : ℕ) → eqb m n ≡ eqb n m
 eqb-swap m n = same-test (eqb m n) (eqb n m) (λ e. eq-so n m (sym (so-eq m n e))) (λ e. eq-so m n (sym (so-eq n m e)))
 

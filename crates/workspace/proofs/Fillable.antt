@@ -25,7 +25,7 @@ use Rattle.workspace.specs.Trials.{actionBy, canAct, Trials, trialsOf}
 use Rattle.workspace.specs.Private.{Shaped, LastActs, FillsTrying}
 use Rattle.soda.specs.declared.Action.{Action}
 use Rattle.workspace.proofs.Subterms.{rights-length}
-use Rattle.workspace.proofs.Entries.{all-append}
+use Rattle.soda.proofs.Splits.{all-append}
 
 abbrev pub users-ok : List Action → Bool
 users-ok l = all (λ a. ltb (a .user) 16) l

@@ -36,4 +36,5 @@ pub mod policy;
 pub mod raw;
 pub mod search;
 pub mod selfcheck;
+mod words;
 pub mod workspace;

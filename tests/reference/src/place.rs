@@ -26,12 +26,7 @@ fn end_of_first_term(words: &[u32]) -> usize {
 mod tests {
     use super::*;
     use crate::policy::read_term;
-
-    const ALL: u32 = 0x01000000;
-    const NOT: u32 = 0x04000000;
-    const PLUS: u32 = 0x05000000;
-    const EITHER: u32 = 0x06000000;
-    const TOGETHER: u32 = 0x08000000;
+    use crate::words::{ALL, EITHER, NOT, PLUS, TOGETHER};
 
     /// The number and the place for two users and three roles.
     fn fault(words: &[u32]) -> (Code, Option<usize>) {

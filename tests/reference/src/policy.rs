@@ -303,14 +303,7 @@ pub fn user_roles_fit(users: usize, roles: usize, user_roles: &[u16]) -> bool {
 mod tests {
     use super::*;
     use crate::examples::POLICY_F;
-
-    const ALL: u32 = 0x01000000;
-    const NOT: u32 = 0x04000000;
-    const PLUS: u32 = 0x05000000;
-    const EITHER: u32 = 0x06000000;
-    const BOTH: u32 = 0x07000000;
-    const TOGETHER: u32 = 0x08000000;
-    const APART: u32 = 0x09000000;
+    use crate::words::{ALL, APART, BOTH, EITHER, NOT, PLUS, TOGETHER};
 
     /// The answer for two users and three roles.
     fn read(words: &[u32]) -> Result<(usize, u32), Code> {

@@ -6,14 +6,7 @@ use super::terms::{self, Style};
 use super::Random;
 use crate::code::{self, Code};
 use crate::policy::{Operator, Term, MOST_WORDS};
-
-const ALL: u32 = 0x01000000;
-const NOT: u32 = 0x04000000;
-const PLUS: u32 = 0x05000000;
-const EITHER: u32 = 0x06000000;
-const BOTH: u32 = 0x07000000;
-const TOGETHER: u32 = 0x08000000;
-const APART: u32 = 0x09000000;
+use crate::words::{ALL, APART, BOTH, EITHER, NOT, PLUS, TOGETHER};
 
 /// Words that are bad with three users and three roles: of no kind, with a bit that is to be zero,
 /// an undeclared role, an undeclared user, and the empty set.
