@@ -195,3 +195,16 @@ fn main() -> ExitCode {
         }
     }
 }
+
+#[cfg(test)]
+mod tests {
+    use super::*;
+
+    #[test]
+    fn library_and_tuned_code_agree_in_every_row() {
+        let builds = Builds { linked: Library::linked().expect("a library"), earlier: None };
+        for case in cases::all() {
+            agree(&case, &mut builds.main_candidates(&case));
+        }
+    }
+}

@@ -72,7 +72,7 @@ impl Monitor {
     }
 
     /// The users who may act: those whose action would be accepted now, whatever its number. A closed
-    /// monitor and one with twelve actions have none.
+    /// monitor and one with twelve actions have none, and a user without any role is never one.
     ///
     /// A refused event alters nothing, so who may act is asked anew only after an accepted one.
     ///

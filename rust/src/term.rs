@@ -20,9 +20,13 @@ const APART: u32 = 9;
 /// declared. A part that cannot be made is refused as the call would refuse that part alone, at word
 /// 0.
 ///
+/// A unit term is one that is made without plus, together and apart, and is about one action. A user
+/// without any role meets none, whatever it is.
+///
 /// # Example
 ///
-/// One counts (role 0), another approves (role 1), and besides anybody but user 3 may act:
+/// One counts (role 0), another approves (role 1), and besides anybody with a role but user 3 may
+/// act:
 ///
 /// ```
 /// use oskhrein::{Monitor, Refusal, Term};
@@ -73,11 +77,33 @@ impl Term {
         Ok(Term::leaf(SET, users.iter().fold(0, |mask, user| mask | 1 << user)))
     }
 
-    /// One action of a user who does not meet the inner term.
+    /// One action of a user who holds some role and does not meet the inner term.
+    ///
+    /// So who has lost every role meets neither the inner term nor this one. Not twice is met by those
+    /// who meet the inner term.
     ///
     /// # Errors
     /// [`WordCount`](Refusal::WordCount) if it has more than 31 words, [`Unit`](Refusal::Unit) if
     /// the inner term is no unit term: it has a plus, together or apart in it.
+    ///
+    /// # Example
+    ///
+    /// Anybody but Anna, who is user 0. Anna leaves:
+    ///
+    /// ```
+    /// use oskhrein::{Event, Monitor, Refusal, Term, Workspace};
+    ///
+    /// # fn main() -> Result<(), Refusal> {
+    /// let not_anna = Term::not(Term::set(&[0])?)?;
+    /// let mut workspace = Workspace::new();
+    /// let mut quote = Monitor::open(2, 1, not_anna.words(), &[1, 1])?;
+    /// quote.event(Event::Revoke { user: 0, role: 0 }, &mut workspace)?;
+    /// let anna = quote.event(Event::Action { user: 0, number: 0 }, &mut workspace);
+    /// assert_eq!(anna, Err(Refusal::NotPossible));
+    /// quote.event(Event::Action { user: 1, number: 0 }, &mut workspace)?;
+    /// # Ok(())
+    /// # }
+    /// ```
     #[allow(clippy::should_implement_trait)] // the trait's method cannot refuse
     pub fn not(inner: Term) -> Result<Term, Refusal> {
         Term::of(NOT, &[inner], true)?.over_unit(inner)

@@ -1,4 +1,5 @@
-//! Document 01's listing L, its settled examples P1 to P12 and its four tempting mistakes.
+//! Document 01's listing L, its settled examples P1 to P12, P6 and P7 as document 02 alters them, and
+//! its four tempting mistakes.
 
 mod common;
 
@@ -57,7 +58,7 @@ fn p5_a_user_without_a_role_acts_first() {
     assert_eq!(monitor.event(action(2), &mut workspace), Err(Refusal::NotPossible));
 }
 
-/// P6 and P7: together(role 2, not role 2), and who makes the first action.
+/// P6 and P7: together(role 2, not role 2), and who tries first.
 fn role_withdrawn(first: u8) -> Vec<u8> {
     let policy = [0x08000000, 0x02000002, 0x04000000, 0x02000002];
     let (grant, revoke) = (Event::Grant { user: 1, role: 2 }, Event::Revoke { user: 1, role: 2 });
@@ -65,13 +66,13 @@ fn role_withdrawn(first: u8) -> Vec<u8> {
 }
 
 #[test]
-fn p6_old_actions_keep_what_was_noted() {
-    assert_eq!(role_withdrawn(1), [0; 5]);
+fn p6_not_asks_for_a_role() {
+    assert_eq!(role_withdrawn(1), [0, 0, 0, 9, 11]);
 }
 
 #[test]
-fn p7_the_other_way_round() {
-    assert_eq!(role_withdrawn(0)[3], 9);
+fn p7_neither_user_holds_a_role() {
+    assert_eq!(role_withdrawn(0), [0, 9, 0, 9, 11]);
 }
 
 #[test]
@@ -111,6 +112,14 @@ fn p12_plus_over_together() {
     assert_eq!(number(Monitor::open(1, 1, &policy, &[1])), 4);
     assert_eq!(number(normal_form(1, 1, &policy, &mut [0; 4])), 4);
     assert_eq!(number(satisfies(1, 1, &policy, &[1], &[0; 16], &mut workspace)), 4);
+}
+
+#[test]
+fn old_actions_keep_what_was_noted() {
+    let policy = [0x09000000, 0x05000000, 0x02000000, 0x02000001];
+    let leaves = Event::Revoke { user: 0, role: 0 };
+    let events = [action(0), leaves, action(0), action(1), Event::Close];
+    assert_eq!(numbers(2, &policy, &[1, 2], &events), [0, 0, 9, 0, 0]);
 }
 
 #[test]

@@ -68,6 +68,24 @@ fn the_library_has_this_version_and_layout() {
     assert_eq!(Calls::LINKED.layout(), LAYOUT);
 }
 
+/// 0.3.0 noted not for a user without any role. What it stored has the same layout and is good.
+#[test]
+fn what_an_earlier_version_noted_stays() -> Result<(), Refusal> {
+    let together = [0x08000000, 0x02000002, 0x04000000, 0x02000002];
+    let (leaver, mut workspace) = (Event::Action { user: 1, number: 0 }, Workspace::new());
+    let mut monitor = Monitor::open(3, 3, &together, &[0, 4, 0])?;
+    monitor.event(leaver, &mut workspace)?;
+    monitor.event(Event::Revoke { user: 1, role: 2 }, &mut workspace)?;
+    assert_eq!(monitor.event(leaver, &mut workspace), Err(Refusal::NotPossible));
+    let mut bytes = monitor.to_bytes();
+    // the second action as it was noted, at word 2
+    bytes[168..176].copy_from_slice(&[1, 0, 0, 0, 1 << 2, 0, 0, 0]);
+    bytes[258] = 2;
+    let mut monitor = Monitor::from_bytes(&bytes);
+    assert_eq!(monitor.status(&mut workspace)?, Status::Complete);
+    monitor.event(Event::Close, &mut workspace)
+}
+
 #[test]
 fn every_part_of_fifteen() {
     assert!(!is_malformed(256, 10), "as it was stored");

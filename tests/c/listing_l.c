@@ -260,6 +260,52 @@ static void enabled(void)
     check(users == 0 && workspace_is(GUARD), "nobody may act on a full monitor");
 }
 
+static uint8_t event(struct oskhrein_monitor *monitor, uint32_t word)
+{
+    return oskhrein_event(monitor, word, workspace, OSKHREIN_WORKSPACE_WORDS);
+}
+
+static uint16_t enabled_users(const struct oskhrein_monitor *monitor)
+{
+    uint16_t users = 0xa5a5;
+    CHECK(oskhrein_enabled(monitor, workspace, OSKHREIN_WORKSPACE_WORDS, &users) == OSKHREIN_ACCEPTED);
+    return users;
+}
+
+/* P6: user 1 acts as role 2, loses it, and holds no role when she acts again. */
+static void role_then_none(void)
+{
+    static const uint32_t policy[] = {0x08000000, 0x02000002, 0x04000000, 0x02000002};
+    static const uint16_t rows[] = {0, 0, 0};
+    static const uint32_t events[] = {0x02000102, 0x01000100, 0x03000102, 0x01000100, 0x04000000};
+    static const uint8_t want[] = {0, 0, 0, OSKHREIN_NOT_POSSIBLE, OSKHREIN_NOT_SATISFIED};
+    struct oskhrein_monitor monitor = OSKHREIN_BLANK;
+
+    CHECK(oskhrein_open(&monitor, 3, 3, policy, 4, rows, 3, &place) == OSKHREIN_ACCEPTED);
+    for (size_t i = 0; i < sizeof events / sizeof *events; i++) {
+        check(event(&monitor, events[i]) == want[i], "P6");
+    }
+    CHECK(monitor.instance.taken == 1 && enabled_users(&monitor) == 0);
+}
+
+/* Plus not Anna, who is user 0: neither she nor user 1 may act once they hold no role, and what user 1 did before stays. */
+static void leavers(void)
+{
+    static const uint32_t not_anna[] = {0x05000000, 0x04000000, 0x03000001};
+    static const uint16_t rows[] = {1, 3, 2};
+    struct oskhrein_monitor monitor = OSKHREIN_BLANK;
+
+    CHECK(oskhrein_open(&monitor, 3, 2, not_anna, 3, rows, 3, &place) == OSKHREIN_ACCEPTED);
+    CHECK(enabled_users(&monitor) == 6);
+    CHECK(event(&monitor, 0x01000100) == OSKHREIN_ACCEPTED);
+    CHECK(event(&monitor, 0x03000100) == OSKHREIN_ACCEPTED && enabled_users(&monitor) == 6);
+    CHECK(event(&monitor, 0x03000101) == OSKHREIN_ACCEPTED && enabled_users(&monitor) == 4);
+    CHECK(event(&monitor, 0x01000100) == OSKHREIN_NOT_POSSIBLE);
+    CHECK(event(&monitor, 0x03000000) == OSKHREIN_ACCEPTED && enabled_users(&monitor) == 4);
+    check(event(&monitor, 0x01000000) == OSKHREIN_NOT_POSSIBLE, "a leaver does not pass as not Anna");
+    CHECK(event(&monitor, 0x04000000) == OSKHREIN_ACCEPTED && monitor.instance.taken == 1);
+}
+
 static void normal_forms(void)
 {
     static const uint32_t want[] = {0x08000000, 0x05000000, 0x01000000, 0x09000000, 0x02000000, 0x06000000,
@@ -292,6 +338,8 @@ int main(void)
     refusals();
     kept_mask();
     enabled();
+    role_then_none();
+    leavers();
     normal_forms();
     return report();
 }

@@ -228,7 +228,7 @@ impl Reader {
                 if !self.is_unit(i + 1) {
                     return true;
                 }
-                !who.at(i + 1)
+                who.everyone() & !who.at(i + 1)
             }
             5 if operand == 0 => {
                 self.one_side(i);

@@ -1,4 +1,5 @@
--- Demand 2: after an opening and any events, the monitor answers what Definitions 3, 6 and 7 of document 004 say. Statements only.
+-- Demand 2: after an opening and any events, the monitor answers what Definitions 3, 6 and 7 of document 004 say, with rule 4 of Definition 3
+-- as document 02's E3 replaces it (`Rule4` of soda). Statements only.
 -- `eventCode` and `statusLetter` are fields of `outcome` and `statusOf`, which the contracts of `event` and `status` cite. Both are
 -- given the length of the workspace alone, so its contents play no part (`StepIsCalls` of Calls).
 use mathlib.Core.Path.{_≡_}

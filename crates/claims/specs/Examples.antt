@@ -1,5 +1,5 @@
--- Document 01's twelve settled examples in one table, and the claim that they hold, over the definitions that the contracts cite. P1 is
--- without its printing.
+-- Document 01's twelve settled examples in one table, two of them as document 02 alters them, and the claim that they hold, over the
+-- definitions that the contracts cite. P1 is without its printing.
 use mathlib.Core.Bool.{Bool, true, false, So, _&&_, cond}
 use mathlib.Core.List.{List, [], _∷_}
 use Prim.Native.Nat.{ℕ}
@@ -77,10 +77,10 @@ table =
     ∷ test (given 3 3 F (2 ∷ 5 ∷ 4 ∷ [])) (1 ∷ 1 ∷ []) false
     -- P5: user 2 acts first
     ∷ events (given 3 3 F (2 ∷ 1 ∷ 0 ∷ [])) (0x01000200 ∷ []) (o 9 ∷ [])
-    -- P6: grant user 1 role 2, act, withdraw, act, close
-    ∷ events (given 3 3 G (0 ∷ 0 ∷ 0 ∷ [])) (0x02000102 ∷ 0x01000100 ∷ 0x03000102 ∷ 0x01000100 ∷ 0x04000000 ∷ []) (o 0 ∷ o 0 ∷ o 0 ∷ c 0 ∷ d 0 ∷ [])
-    -- P7: user 0 makes the first action
-    ∷ events (given 3 3 G (0 ∷ 0 ∷ 0 ∷ [])) (0x02000102 ∷ 0x01000000 ∷ 0x03000102 ∷ 0x01000100 ∷ []) (o 0 ∷ o 0 ∷ o 0 ∷ o 9 ∷ [])
+    -- P6: grant user 1 role 2, act, withdraw, act, close; by document 02's E3 the last action is answered 9 and the close 11
+    ∷ events (given 3 3 G (0 ∷ 0 ∷ 0 ∷ [])) (0x02000102 ∷ 0x01000100 ∷ 0x03000102 ∷ 0x01000100 ∷ 0x04000000 ∷ []) (o 0 ∷ o 0 ∷ o 0 ∷ o 9 ∷ o 11 ∷ [])
+    -- P7: user 0 makes the first action; by E3 it is answered 9 as well
+    ∷ events (given 3 3 G (0 ∷ 0 ∷ 0 ∷ [])) (0x02000102 ∷ 0x01000000 ∷ 0x03000102 ∷ 0x01000100 ∷ []) (o 0 ∷ o 9 ∷ o 0 ∷ o 9 ∷ [])
     -- P8: two of her actions o, three c, four c
     ∷ events (given 2 1 H (0 ∷ 1 ∷ [])) (0x01000100 ∷ 0x01000100 ∷ 0x01000100 ∷ 0x01000100 ∷ []) (o 0 ∷ o 0 ∷ c 0 ∷ c 0 ∷ [])
     -- P9: apart(role 0, role 0), one user

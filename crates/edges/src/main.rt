@@ -172,12 +172,17 @@ fn users() {
     open(b"17 roles: ", 1, 17, &plus, &roles);
 }
 
-// One action by user 0; prints its number.
-fn act(monitor: Monitor) -> Monitor {
+// One event; says its number.
+fn event(asked: &[u8], monitor: Monitor, word: u32) -> Monitor {
     let mut workspace = [0u32; 8192];
-    let answer = monitor.event(0x0100_0000, &mut workspace);
-    say(b"action: ", answer.code);
+    let answer = monitor.event(word, &mut workspace);
+    say(asked, answer.code);
     answer.monitor
+}
+
+// One action by user 0.
+fn act(monitor: Monitor) -> Monitor {
+    event(b"action: ", monitor, 0x0100_0000)
 }
 
 // Thirteen actions by one user: twelve are taken, the next finds the monitor full.
@@ -237,12 +242,14 @@ const ANY: u32 = 0x0500_0000;
 
 const TOGETHER: u32 = 0x0800_0000;
 
+const USER_0: u32 = 0x0300_0001;
+
 // A word of no kind, a role and a set that two users and two roles do not have, and the empty set.
 const NO_KIND: u32 = 0x0a00_0000;
 
-const ROLE: u32 = 0x0200_0002;
+const ROLE_2: u32 = 0x0200_0002;
 
-const SET: u32 = 0x0300_0004;
+const USER_2: u32 = 0x0300_0004;
 
 const EMPTY: u32 = 0x0300_0000;
 
@@ -258,11 +265,11 @@ fn bad_words() {
     refuse(b"no word: ", &none[..0]);
     let first = [NO_KIND, ALL];
     refuse(b"no kind, first: ", &first);
-    let middle = [TOGETHER, ROLE, ALL];
+    let middle = [TOGETHER, ROLE_2, ALL];
     refuse(b"undeclared role, middle: ", &middle);
-    let last = [TOGETHER, ALL, SET];
+    let last = [TOGETHER, ALL, USER_2];
     refuse(b"undeclared user, last: ", &last);
-    let two = [TOGETHER, EMPTY, ROLE, ALL];
+    let two = [TOGETHER, EMPTY, ROLE_2, ALL];
     refuse(b"two bad words: ", &two);
     let mut longest = LONGEST;
     longest[30] = EMPTY;
@@ -333,6 +340,57 @@ fn no_place() {
     );
 }
 
+// P6 and P7 as document 02's E3 has them: nobody holds a role at first, and user 1 gets and loses role 2.
+fn settled() {
+    let words = [TOGETHER, ROLE_2, NOT, ROLE_2];
+    let rows = [0u16; 3];
+    let opened = Monitor::open(3, 3, &words, &rows).monitor;
+    let granted = event(b"P6, grant: ", opened, 0x0200_0102);
+    let acted = event(b"P6, action: ", granted, 0x0100_0100);
+    let left = event(b"P6, withdrawal: ", acted, 0x0300_0102);
+    let last = event(b"P6, action without a role: ", left, 0x0100_0100);
+    event(b"P6, close: ", last, 0x0400_0000);
+    let first = event(b"P7, action without a role: ", granted, 0x0100_0000);
+    let gone = event(b"P7, withdrawal: ", first, 0x0300_0102);
+    event(b"P7, action without a role: ", gone, 0x0100_0100);
+}
+
+// Not user 0: by user 1, who then leaves, by user 0, and by both once they have left.
+fn leavers() {
+    let words = [NOT, USER_0];
+    let rows = [1u16, 1];
+    let mut workspace = [0u32; 8192];
+    let opened = Monitor::open(2, 1, &words, &rows).monitor;
+    say_enabled(b"not user 0, who may act: ", opened.enabled(&mut workspace));
+    let first = event(b"user 0 leaves: ", opened, 0x0300_0000);
+    event(b"user 0 without a role: ", first, 0x0100_0000);
+    let both = event(b"user 1 leaves: ", first, 0x0300_0100);
+    event(b"user 1 without a role: ", both, 0x0100_0100);
+    say_enabled(
+        b"both have left, who may act: ",
+        both.enabled(&mut workspace),
+    );
+    let acted = event(b"user 1 before leaving: ", opened, 0x0100_0100);
+    let left = event(b"user 1 leaves then: ", acted, 0x0300_0100);
+    event(b"close: ", left, 0x0400_0000);
+    let none = [0u16, 0];
+    let mut counts = [0u8; 16];
+    counts[1] = 1;
+    say_verdict(
+        b"multiset of user 1 without a role: ",
+        multiset::satisfies(2, 1, &words, &none, counts, &mut workspace),
+    );
+}
+
+// Not twice, for a user with a role and one without.
+fn not_twice() {
+    let words = [NOT, NOT, ALL];
+    let rows = [1u16, 0];
+    let opened = Monitor::open(2, 1, &words, &rows).monitor;
+    event(b"not not everyone, with a role: ", opened, 0x0100_0000);
+    event(b"not not everyone, without: ", opened, 0x0100_0100);
+}
+
 fn main() {
     words();
     users();
@@ -342,4 +400,7 @@ fn main() {
     left_over();
     no_unit_terms();
     no_place();
+    settled();
+    leavers();
+    not_twice();
 }

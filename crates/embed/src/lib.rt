@@ -17,8 +17,8 @@ use monitor::Status;
 use multiset::Verdict;
 use policy::Code;
 
-// The version, 0.3.0: major, minor and patch number, a byte each.
-const VERSION: u32 = 0x000300;
+// The version, 0.4.0: major, minor and patch number, a byte each.
+const VERSION: u32 = 0x000400;
 
 // The number of the layout of what is lent: another one whenever a field of it comes, goes, moves or means something else.
 const LAYOUT: u32 = 2;

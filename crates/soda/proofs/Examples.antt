@@ -1,5 +1,6 @@
--- The definitions run: document 01's four mistakes that tempt, each by a case that the mistake gets wrong, and document 004's example
--- of a synchronised interleaving. Document 01's settled examples are claimed of the calls, in the crate `claims`.
+-- The definitions run: document 01's four mistakes that tempt, each by a case that the mistake gets wrong, the readings of not that document
+-- 02's E3 rules out, and document 004's example of a synchronised interleaving. Document 01's settled examples are claimed of the calls,
+-- in the crate `claims`.
 use mathlib.Core.Path.{refl}
 use mathlib.Core.Bool.{Bool, true, false, So, Bool·beq, _&&_}
 use mathlib.Core.List.{List, [], _∷_, _++_}
@@ -33,8 +34,8 @@ by u = business u 0 ∷ []
 
 abbrev cases : List Case
 cases =
-    -- old actions judged by today's grants: user 0 acts with role 0, loses it, and acts again
-    row (role 0 ⊙ (¬ᵗ (role 0))) (1 ∷ []) (by 0 ++ (rmUA 0 0 ∷ []) ++ by 0) true true
+    -- old actions judged by today's grants: user 0 acts with role 0, loses it, and acts again with role 1
+    row (role 0 ⊙ (¬ᵗ (role 0))) (3 ∷ []) (by 0 ++ (rmUA 0 0 ∷ []) ++ by 0) true true
     -- each action given greedily to the first open side: user 0 holds both roles, user 1 holds role 0 alone
     ∷ row (role 0 ⊙ role 1) (3 ∷ 1 ∷ []) (by 0 ++ by 1) true true
     -- apart comparing places instead of users: one user acts twice
@@ -44,6 +45,17 @@ cases =
     ∷ row ((set 1 ⊙ set 2) ⊓ᵗ (set 1 ⊙ set 4)) (1 ∷ 1 ∷ 1 ∷ []) (by 0) true false
     ∷ row ((set 1 ⊙ set 2) ⊓ᵗ (set 1 ⊙ set 4)) (1 ∷ 1 ∷ 1 ∷ []) (by 0 ++ by 1) false false
     ∷ row ((set 1 ⊙ set 2) ⊓ᵗ (set 1 ⊙ set 4)) (1 ∷ 1 ∷ 1 ∷ []) (by 0 ++ by 2) false false
+    -- not met without a role (the paper's rule 4): user 0 has left, named by the set or not
+    ∷ row (¬ᵗ (set 1)) (1 ∷ []) ((rmUA 0 0 ∷ []) ++ by 0) false false
+    ∷ row (¬ᵗ (set 2)) (1 ∷ []) ((rmUA 0 0 ∷ []) ++ by 0) false false
+    -- not by the roles at the start: user 0 gets one, and meets it then
+    ∷ row (¬ᵗ (role 0)) (0 ∷ []) (by 0) false false
+    ∷ row (¬ᵗ (role 0)) (0 ∷ []) ((addUA 0 1 ∷ []) ++ by 0) true true
+    -- not by a role that the inner term names: this one names none
+    ∷ row (¬ᵗ (set 2)) (1 ∷ []) (by 0) true true
+    -- not twice, met by whoever holds a role and meets the inner term
+    ∷ row (¬ᵗ (¬ᵗ everyone)) (1 ∷ 0 ∷ []) (by 0) true true
+    ∷ row (¬ᵗ (¬ᵗ everyone)) (1 ∷ 0 ∷ []) (by 1) false false
     ∷ []
 
 pub tempting-mistakes : So (all holds cases)

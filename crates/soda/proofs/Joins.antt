@@ -7,7 +7,7 @@ use Prim.Native.Nat.{ℕ}
 use lib.Dec.{eqb}
 use Rattle.soda.specs.Lists.{Split, nil, left, right}
 use Rattle.soda.specs.Terms.{Op, either, both, together, apart, Term, bin}
-use Rattle.soda.specs.Roles.{meetsOp}
+use Rattle.soda.specs.Roles.{meetsOp, meetsNot}
 use Rattle.soda.specs.Tables.{single, several, acts, disjoint, join, table, Execution, metBy, judge}
 use Rattle.soda.specs.Steps.{Steps}
 use Rattle.soda.specs.EqualForms.{StepsKeepJudgement}
@@ -163,7 +163,7 @@ module _ (e : Bool) where
         (bin-law op a b ∙ fun-ext (join-comm who op (judge e a) (judge e b)) ∙ sym (bin-law op b a)) i,
       ))
       (λ op a b c i. (λ x. meetsOp-assoc op (metBy a x) (metBy b x) (metBy c x) i, judge-regroup op a b c i))
-      (λ a b h i. (λ x. not (h i .0 x), single e (λ x. not (h i .0 x))))
+      (λ a b h i. (λ x. meetsNot (x .held) (h i .0 x), single e (λ x. meetsNot (x .held) (h i .0 x))))
       (λ a b h i. (λ x. false, several e (h i .0)))
       (λ op a b c h i. (λ x. meetsOp op (h i .0 x) (metBy c x), judge-under op a b c (λ j. h j .1) i))
 

@@ -2,7 +2,7 @@
 -- a list of them falls into two.
 use mathlib.Core.Path.{_≡_, refl, sym, ap, ap₂, subst, subst₂, _∙_, fun-ext}
 use mathlib.Core.Logic.{_⊎_, inl, inr, _↔_}
-use mathlib.Core.Bool.{Bool, true, false, So, not, _&&_, _||_, cond, false≢true}
+use mathlib.Core.Bool.{Bool, true, false, So, not, _||_, cond, false≢true}
 use mathlib.Core.List.{List, [], _∷_, map}
 use Prim.Native.Nat.{ℕ, zero, suc, _+_, _-_, _≤_, min}
 use native.Mathlib.Omega.{arith}
@@ -10,12 +10,13 @@ use lib.Dec.{eqb}
 use Rattle.soda.specs.Bits.{bit}
 use Rattle.soda.specs.Lists.{all, Split, nil, left, right}
 use Rattle.soda.specs.Terms.{Op, either, both, together, apart, Term, everyone, role, set, ¬ᵗ_, _⁺, bin, unit, wellFormed}
-use Rattle.soda.specs.Roles.{UA, roles, meets}
+use Rattle.soda.specs.Roles.{UA, roles, holdsRole, meets}
 use Rattle.soda.specs.Tables.{single, several, acts, disjoint, join, Execution, metBy, judge}
 use Rattle.soda.specs.Multisets.{Multiset, ∅ᵐ, singleton, multiset, _⊎ᵐ_, _∩ᵐ_, SatM, r1, r2, r3, r4, r5, r6, r7, r8, r9, r10, r11}
 use Rattle.soda.specs.Traces.{execution}
 use Rattle.soda.specs.Accuracy.{Rule4, MeetsIsSingleton}
 use Rattle.soda.proofs.Bools.{never, and-split, and-join, or-split, or-left, or-right, not-so, so-eq, eq-so}
+use Rattle.soda.proofs.Roles.{some-role}
 use Rattle.soda.proofs.Splits.{all-parts, split-map, unmap}
 use Rattle.soda.proofs.Tables.{Judgement, together-out, together-in, apart-out, apart-in, who, judge-unit, judge-plus, judge-bin}
 use Rattle.soda.proofs.Joins.{disjoint-in, disjoint-out}
@@ -24,7 +25,7 @@ use Rattle.soda.proofs.Joins.{disjoint-in, disjoint-out}
 singleton-at : (u : ℕ) → singleton u u ≡ 1
 singleton-at u = ap (λ b. cond b 1 0) (eq-so u u refl)
 
-singleton-is : (u p : ℕ) → 1 ≤ singleton u p → u ≡ p
+pub singleton-is : (u p : ℕ) → 1 ≤ singleton u p → u ≡ p
 singleton-is u p h = go (eqb u p) refl h
   where
     go : (b : Bool) → eqb u p ≡ b → 1 ≤ cond {A = ℕ} b 1 0 → u ≡ p
@@ -38,8 +39,8 @@ singleton-inj u p e = let k : singleton u p ≡ 1 = (λ i. e i p) ∙ singleton-
 meets-singleton : (ua : UA) (u : ℕ) (φ : Term) → So (unit φ) → So (meets φ u (roles ua u)) → SatM ua (singleton u) φ
 meets-singleton ua u everyone v m = r1 u m
 meets-singleton ua u (role r) v m = r2 u r m
-meets-singleton ua u (set x) v m = let h = and-split (bit u x) (not (eqb (roles ua u) 0)) m in r3 u x (h .0) (h .1)
-meets-singleton ua u (¬ᵗ φ) v m = r4 u v m
+meets-singleton ua u (set x) v m = let h = and-split (bit u x) (holdsRole (roles ua u)) m in r3 u x (h .0) (h .1)
+meets-singleton ua u (¬ᵗ φ) v m = let h = and-split (holdsRole (roles ua u)) (not (meets φ u (roles ua u))) m in r4 u v (h .0) (h .1)
 meets-singleton ua u (φ ⁺) v m = never v
 meets-singleton ua u (bin either φ ψ) v m =
     let w = and-split (unit φ) (unit ψ) v in
@@ -54,10 +55,10 @@ meets-singleton ua u (bin apart φ ψ) v m = never v
 
 -- .. and the other way round
 singleton-meets : {ua : UA} {M : Multiset} {φ : Term} → SatM ua M φ → So (unit φ) → (p : ℕ) → M ≡ singleton p → So (meets φ p (roles ua p))
-singleton-meets {ua} (r1 u h) v p e = subst (λ x. So (not (eqb (roles ua x) 0))) (singleton-inj u p e) h
+singleton-meets {ua} (r1 u h) v p e = subst (λ x. So (holdsRole (roles ua x))) (singleton-inj u p e) h
 singleton-meets {ua} (r2 u r h) v p e = subst (λ x. So (bit r (roles ua x))) (singleton-inj u p e) h
-singleton-meets {ua} (r3 u m h k) v p e = subst (λ x. So (bit x m && not (eqb (roles ua x) 0))) (singleton-inj u p e) (and-join (bit u m) (not (eqb (roles ua u) 0)) h k)
-singleton-meets {ua} (r4 u {φ = φ} w h) v p e = subst (λ x. So (not (meets φ x (roles ua x)))) (singleton-inj u p e) h
+singleton-meets {ua} (r3 u m h k) v p e = subst (λ x. So (meets (set m) x (roles ua x))) (singleton-inj u p e) (and-join (bit u m) (holdsRole (roles ua u)) h k)
+singleton-meets {ua} (r4 u {φ = φ} w h k) v p e = subst (λ x. So (meets (¬ᵗ φ) x (roles ua x))) (singleton-inj u p e) (and-join (holdsRole (roles ua u)) (not (meets φ u (roles ua u))) h k)
 singleton-meets (r5 u w h) v p e = never v
 singleton-meets (r6 u w h k) v p e = never v
 singleton-meets {ua} (r7 {φ = φ} {ψ = ψ} h) v p e = or-left (meets φ p (roles ua p)) (meets ψ p (roles ua p)) (singleton-meets h (and-split (unit φ) (unit ψ) v .0) p e)
@@ -70,11 +71,12 @@ singleton-meets (r11 h k q) v p e = never v
 pub meets-is-singleton : MeetsIsSingleton
 meets-is-singleton ua u φ v = (meets-singleton ua u φ v, λ h. singleton-meets h v u refl)
 
--- rule 4 as the paper has it, and that nothing else proves a not
+-- rule 4 in the paper's form, and that nothing else proves a not
 pub rule-4 : Rule4
 rule-4 ua u φ v = (
-  λ s h. false≢true (sym (ap not (singleton-meets h v u refl)) ∙ singleton-meets s v u refl),
-  λ n. r4 u v (ap not (not-so (meets φ u (roles ua u)) (λ m. n (meets-singleton ua u φ v m)))),
+  λ s. let (h, n) = and-split (holdsRole (roles ua u)) (not (meets φ u (roles ua u))) (singleton-meets s v u refl) in
+      (some-role ua u .0 h, λ k. false≢true (sym (ap not (singleton-meets k v u refl)) ∙ n)),
+  λ x. r4 u v (some-role ua u .1 (x .0)) (ap not (not-so (meets φ u (roles ua u)) (λ m. x .1 (meets-singleton ua u φ v m)))),
 )
 
 -- ── who acts is who occurs ──
@@ -251,8 +253,8 @@ several-parts f (right p) h k = all-parts f (right p) h k
 sound : {ua : UA} {M : Multiset} {φ : Term} → SatM ua M φ → (s : List ℕ) → multiset s ≡ M → So (judge false φ (seen ua s))
 sound {ua} (r1 u h) s e = one-user everyone refl ua u s e h
 sound {ua} (r2 u r h) s e = one-user (role r) refl ua u s e h
-sound {ua} (r3 u m h k) s e = one-user (set m) refl ua u s e (and-join (bit u m) (not (eqb (roles ua u) 0)) h k)
-sound {ua} (r4 u {φ = φ} v h) s e = one-user (¬ᵗ φ) v ua u s e h
+sound {ua} (r3 u m h k) s e = one-user (set m) refl ua u s e (and-join (bit u m) (holdsRole (roles ua u)) h k)
+sound {ua} (r4 u {φ = φ} v h k) s e = one-user (¬ᵗ φ) v ua u s e (and-join (holdsRole (roles ua u)) (not (meets φ u (roles ua u))) h k)
 sound {ua} (r5 u {φ = φ} v h) s e = subst (λ x. So (judge false (φ ⁺) (seen ua x))) (sym (one-list s u e))
     (judge-plus false φ (execution ua u ∷ []) ∙ and-join (meets φ u (roles ua u)) true (singleton-meets h v u refl) refl)
 sound {ua} (r6 u {U = U} {φ = φ} v h k) s e =

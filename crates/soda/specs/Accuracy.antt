@@ -8,7 +8,7 @@ use lib.Dec.{eqb}
 use lib.ListN.{length}
 use Rattle.soda.specs.Lists.{Split}
 use Rattle.soda.specs.Terms.{Term, ¬ᵗ_, unit, wellFormed}
-use Rattle.soda.specs.Roles.{UA, assigned, grant, revoke, roles, meets}
+use Rattle.soda.specs.Roles.{UA, assigned, grant, revoke, roles, holdsRole, meets}
 use Rattle.soda.specs.Tables.{Execution, table, satisfied, possible, judge, note}
 use Rattle.soda.specs.Multisets.{singleton, multiset, SatM}
 use Rattle.soda.specs.Traces.{Trace, businessOnly, users, actedBelow, execution, noted, SatT}
@@ -45,11 +45,12 @@ Theorem1 =
     (φ : Term) → So (wellFormed φ) → (n : ℕ) (ua : UA) (t : Trace) → So (actedBelow n t)
     → Accepts body (SOD φ n ua) (finished t) ↔ SatT ua t φ
 
--- Rule 4 of Definition 3 as the paper has it: {u} satisfies not φ exactly when {u} does not satisfy φ.
+-- Rule 4 of Definition 3 as document 02's E3 replaces it: {u} satisfies not φ exactly when u holds a role and {u} does not satisfy φ. The
+-- paper has: exactly when {u} does not satisfy φ.
 abbrev pub Rule4 : Type 0
 Rule4 =
     (ua : UA) (u : ℕ) (φ : Term) → So (unit φ)
-    → SatM ua (singleton u) (¬ᵗ φ) ↔ (SatM ua (singleton u) φ → ⊥)
+    → SatM ua (singleton u) (¬ᵗ φ) ↔ (((r : ℕ) × So (assigned ua u r)) × (SatM ua (singleton u) φ → ⊥))
 
 -- For a unit term `meets` is Definition 3 at {u}.
 abbrev pub MeetsIsSingleton : Type 0
@@ -81,7 +82,7 @@ RevokeRemovesOne =
 
 -- "Holds some role" is ∃ r. (u, r) ∈ UA.
 abbrev pub SomeRole : Type 0
-SomeRole = (ua : UA) (u : ℕ) → So (not (eqb (roles ua u) 0)) ↔ ((r : ℕ) × So (assigned ua u r))
+SomeRole = (ua : UA) (u : ℕ) → So (holdsRole (roles ua u)) ↔ ((r : ℕ) × So (assigned ua u r))
 
 -- 01: "The empty set satisfies nothing", and it is possible for every term: e is what a column says of it. For any kind of action.
 abbrev pub EmptySet : Type 1

@@ -6,7 +6,7 @@ use Prim.Native.Nat.{ℕ, _+_, min}
 use lib.Dec.{eqb}
 use Rattle.soda.specs.Bits.{bit}
 use Rattle.soda.specs.Terms.{Term, everyone, role, set, ¬ᵗ_, _⁺, _⊔ᵗ_, _⊓ᵗ_, _⊙_, _⊗_, unit}
-use Rattle.soda.specs.Roles.{UA, roles, meets}
+use Rattle.soda.specs.Roles.{UA, roles, holdsRole, meets}
 
 -- A multiset says how often each user occurs (01: bag).
 abbrev pub Multiset : Type 0
@@ -34,13 +34,14 @@ multiset [] = ∅ᵐ
 multiset (u ∷ s) = singleton u ⊎ᵐ multiset s
 
 -- Definition 3: U satisfies φ with respect to UA. One constructor for each rule. Plus and not take unit terms (Definition 2).
--- Rule 4 has a negative premise, which no inductive relation may have of itself: it asks `meets`, and the statement `Rule4` of
--- Accuracy is the rule as the paper has it.
+-- Rule 4 is the one that document 02's E3 puts in its place: u holds a role, and {u} does not satisfy φ. The paper's rule, "{u} ⊭ φ gives
+-- {u} ⊨ ¬φ", has the second premise alone. It is negative, which no inductive relation may have of itself: so it asks `meets`, and the
+-- statement `Rule4` of Accuracy is the rule in the paper's form.
 pub data SatM (ua : UA) : Multiset → Term → Type 0 where
-  r1 : (u : ℕ) → So (not (eqb (roles ua u) 0)) → SatM ua (singleton u) everyone
+  r1 : (u : ℕ) → So (holdsRole (roles ua u)) → SatM ua (singleton u) everyone
   r2 : (u r : ℕ) → So (bit r (roles ua u)) → SatM ua (singleton u) (role r)
-  r3 : (u m : ℕ) → So (bit u m) → So (not (eqb (roles ua u) 0)) → SatM ua (singleton u) (set m)
-  r4 : (u : ℕ) {φ : Term} → So (unit φ) → So (not (meets φ u (roles ua u))) → SatM ua (singleton u) (¬ᵗ φ)
+  r3 : (u m : ℕ) → So (bit u m) → So (holdsRole (roles ua u)) → SatM ua (singleton u) (set m)
+  r4 : (u : ℕ) {φ : Term} → So (unit φ) → So (holdsRole (roles ua u)) → So (not (meets φ u (roles ua u))) → SatM ua (singleton u) (¬ᵗ φ)
   r5 : (u : ℕ) {φ : Term} → So (unit φ) → SatM ua (singleton u) φ → SatM ua (singleton u) (φ ⁺)
   r6 : (u : ℕ) {U : Multiset} {φ : Term} → So (unit φ) → SatM ua (singleton u) φ → SatM ua U (φ ⁺) → SatM ua (singleton u ⊎ᵐ U) (φ ⁺)
   r7 : {U : Multiset} {φ ψ : Term} → SatM ua U φ → SatM ua U (φ ⊔ᵗ ψ)

@@ -27,6 +27,10 @@ grant ua u r = put ua u (setBit r (roles ua u))
 abbrev pub revoke : UA → ℕ → ℕ → UA
 revoke ua u r = put ua u (clearBit r (roles ua u))
 
+-- "holds some role": the set h of the roles held is not empty
+abbrev pub holdsRole : ℕ → Bool
+holdsRole h = not (eqb h 0)
+
 -- Either and both of two answers. Together and apart stand in no unit term.
 abbrev pub meetsOp : Op → Bool → Bool → Bool
 meetsOp either a b = a || b
@@ -34,11 +38,16 @@ meetsOp both a b = a && b
 meetsOp together a b = false
 meetsOp apart a b = false
 
--- Whether user u, who holds the roles of the set h, meets a unit term. Not is 004's rule 4: a user with no role meets it too.
+-- Not of an answer, for a user who holds the roles of the set h. It is rule 4 of 004's Definition 3 as document 02's E3 replaces it: "a person
+-- meets not exactly if she holds a role and does not meet the inner term". The paper's rule has the second half alone.
+abbrev pub meetsNot : ℕ → Bool → Bool
+meetsNot h a = holdsRole h && not a
+
+-- Whether user u, who holds the roles of the set h, meets a unit term.
 abbrev pub meets : Term → ℕ → ℕ → Bool
-meets everyone u h = not (eqb h 0)
+meets everyone u h = holdsRole h
 meets (role r) u h = bit r h
-meets (set m) u h = bit u m && not (eqb h 0)
-meets (¬ᵗ φ) u h = not (meets φ u h)
+meets (set m) u h = bit u m && holdsRole h
+meets (¬ᵗ φ) u h = meetsNot h (meets φ u h)
 meets (φ ⁺) u h = false
 meets (bin op φ ψ) u h = meetsOp op (meets φ u h) (meets ψ u h)

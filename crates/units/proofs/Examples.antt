@@ -1,4 +1,5 @@
--- One computed test: for each row of a table the words that begin unit terms, and those that user 1 meets who holds roles 0 and 2.
+-- Computed tests: for each row of a table the words that begin unit terms, and those that user 1 meets who holds roles 0 and 2; without a
+-- role the same user meets none of them.
 use mathlib.Core.Path.{_≡_, refl}
 use mathlib.Core.List.{List, [], _∷_, map}
 use Prim.Native.Nat.{ℕ}
@@ -37,8 +38,11 @@ cases =
     -- a role that the user does not hold, and not over it
     ∷ row (0x02000001 ∷ []) 1 0
     ∷ row (0x04000000 ∷ 0x02000001 ∷ []) 3 1
-    -- a set without the user
+    -- not twice
+    ∷ row (0x04000000 ∷ 0x04000000 ∷ 0x01000000 ∷ []) 7 5
+    -- a set without the user, and not over it
     ∷ row (0x03000001 ∷ []) 1 0
+    ∷ row (0x04000000 ∷ 0x03000001 ∷ []) 3 1
     -- kind 0, a word left over, the words running out
     ∷ row (0x00000000 ∷ []) 0 0
     ∷ row (0x01000000 ∷ 0x01000000 ∷ []) 0 0
@@ -50,3 +54,7 @@ cases =
 computed : map (λ (c : Case). row (c .words) (unitWords (c .words)) (metOf (c .words) 1 5)) cases ≡ cases
 unfolding unitWords metOf
 computed = refl
+
+without-a-role : map (λ (c : Case). metOf (c .words) 1 0) cases ≡ map (λ (c : Case). 0) cases
+unfolding metOf
+without-a-role = refl

@@ -1,7 +1,7 @@
 -- The row of terms in bits: what one word more makes of it, and the one term at the end.
 use mathlib.Core.Path.{_≡_, refl, sym, _∙_, ap}
 use mathlib.Core.Logic.{_⊎_, inl, inr}
-use mathlib.Core.Bool.{Bool, true, false, not, _&&_, _||_, and-true, and-assoc, true≢false}
+use mathlib.Core.Bool.{Bool, true, false, _&&_, _||_, and-true, and-assoc, true≢false}
 use mathlib.Core.List.{List, [], _∷_, _++_, map, append-assoc, append-nil}
 use mathlib.Core.Option.{Option, some, none}
 use Prim.Native.Nat.{ℕ, zero, suc, _+_, _/_, _^_, _≤_, _<_}
@@ -16,7 +16,7 @@ use borrow.Author.Tests.{lt-ltb, le-ltb, ne-eqb}
 use Rattle.soda.specs.Bits.{bit, number}
 use Rattle.soda.specs.Lists.{all}
 use Rattle.soda.specs.Terms.{Op, either, both, together, apart, Term, everyone, role, set, ¬ᵗ_, _⁺, bin, unit, wellFormed, subterms}
-use Rattle.soda.specs.Roles.{meets}
+use Rattle.soda.specs.Roles.{meetsNot, meets}
 use Rattle.soda.specs.Words.{opKind}
 use Rattle.soda.proofs.Bits.{digit-lt, bit-number}
 use Rattle.soda.proofs.Terms.{size-pos, subterms-length}
@@ -161,10 +161,10 @@ module _ (u h : ℕ) where
         (ap (placedOf (stackOf u h (φ ∷ ts)) 1 a b) (ap (λ (f : Bool). f && all wellFormed (φ ∷ ts)) (lowest (unit φ) (topped ts)) ∙ sym (and-assoc (unit φ) (wellFormed φ) (all wellFormed ts))))
 
     not-is : let s = stackOf u h (φ ∷ ts) in
-        overOf s (bit 0 (s .unit)) (not (bit 0 (s .met))) ≡ placedOf s 1 (unit φ) (not (met φ)) ((unit φ && wellFormed φ) && all wellFormed ts)
+        overOf s (bit 0 (s .unit)) (meetsNot h (bit 0 (s .met))) ≡ placedOf s 1 (unit φ) (met (¬ᵗ φ)) ((unit φ && wellFormed φ) && all wellFormed ts)
     not-is =
-        (λ i. overOf (stackOf u h (φ ∷ ts)) (lowest (unit φ) (topped ts) i) (not (lowest (met φ) (map met ts) i)))
-        ∙ over-is (unit φ) (not (met φ))
+        (λ i. overOf (stackOf u h (φ ∷ ts)) (lowest (unit φ) (topped ts) i) (meetsNot h (lowest (met φ) (map met ts) i)))
+        ∙ over-is (unit φ) (met (¬ᵗ φ))
 
   -- between two sides
   module _ (φ ψ : Term) (ts : List Term) where

@@ -1,9 +1,10 @@
 -- What the crate's own functions answer: what is kept of a row of terms, and what is found of the one term.
-use mathlib.Core.Bool.{Bool, true, false, not, _&&_, _||_, cond}
+use mathlib.Core.Bool.{Bool, true, false, _&&_, _||_, cond}
 use mathlib.Core.Option.{Option, some, none}
 use Prim.Native.Nat.{ℕ, _/_, _^_}
 use lib.Dec.{ltb, eqb}
 use Rattle.soda.specs.Bits.{bit}
+use Rattle.soda.specs.Roles.{holdsRole, meetsNot}
 use Rattle.soda.specs.Terms.{Term, unit, wellFormed, marks}
 use Rattle.soda.specs.Tables.{metBits}
 use Rattle.policy.specs.Kinds.{EVERYONE, ROLE, SET, NOT, PLUS, EITHER, BOTH, TOGETHER, APART}
@@ -43,9 +44,9 @@ abbrev pub someOf : ℕ → Bool
 someOf bits = bit 0 bits || bit 1 bits
 
 -- by the kind k of a word that has sides: it takes them from the row
-abbrev pub compositeOf : Stack → ℕ → Stack
-compositeOf s k =
-    cond (eqb k NOT) (overOf s (bit 0 (s .unit)) (not (bit 0 (s .met))))
+abbrev pub compositeOf : ℕ → Stack → ℕ → Stack
+compositeOf h s k =
+    cond (eqb k NOT) (overOf s (bit 0 (s .unit)) (meetsNot h (bit 0 (s .met))))
     (cond (eqb k PLUS) (overOf s false false)
     (cond (eqb k EITHER) (besideOf s (bothOf (s .unit)) (someOf (s .met)))
     (cond (eqb k BOTH) (besideOf s (bothOf (s .unit)) (bothOf (s .met)))
@@ -55,10 +56,10 @@ compositeOf s k =
 -- by the word's kind k, with operand x
 abbrev pub stepOf : ℕ → ℕ → Stack → ℕ → ℕ → Stack
 stepOf u h s k x =
-    cond (eqb k EVERYONE) (leafOf s (not (eqb h 0)))
+    cond (eqb k EVERYONE) (leafOf s (holdsRole h))
     (cond (eqb k ROLE) (leafOf s (bit x h))
-    (cond (eqb k SET) (leafOf s (bit u x && not (eqb h 0)))
-    (compositeOf s k)))
+    (cond (eqb k SET) (leafOf s (bit u x && holdsRole h))
+    (compositeOf h s k)))
 
 -- what is found of the term that some words are
 abbrev pub analysisIn : ℕ → ℕ → Option Term → Analysis

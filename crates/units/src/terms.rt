@@ -115,12 +115,12 @@ fn some(bits: u32) -> bool
     has_bit(bits, 0) | has_bit(bits, 1)
 }
 
-// The row after a word of kind k that has sides: it takes them from the row.
-fn composite(s: Stack, k: usize) -> Stack
-    ensures { λ r. ⌜ r ≡ compositeOf s k ⌝ }
+// The row after a word of kind k that has sides: it takes them from the row. Not is met by no user without a role.
+fn composite(s: Stack, k: usize, held: u16) -> Stack
+    ensures { λ r. ⌜ r ≡ compositeOf held s k ⌝ }
 {
     if k == kinds::NOT {
-        return over(s, has_bit(s.unit, 0), !has_bit(s.met, 0));
+        return over(s, has_bit(s.unit, 0), (held != 0) & !has_bit(s.met, 0));
     }
     if k == kinds::PLUS {
         return over(s, false, false);
@@ -151,7 +151,7 @@ fn step(s: Stack, w: u32, user: u8, held: u16) -> Stack
     if k == kinds::SET {
         return leaf(s, has_bit(operand_of(w), user as u32) & (held != 0));
     }
-    composite(s, k)
+    composite(s, k, held)
 }
 
 // The one term that the words are, analysed for a user who holds these roles; only what is noted depends on them.

@@ -1,4 +1,5 @@
-//! 01's listing L, its twelve settled examples and its four tempting mistakes, as checks.
+//! 01's listing L, its twelve settled examples, P6 and P7 as 02's E3 has them, and its four tempting
+//! mistakes, as checks.
 
 use crate::casefile::{judge, read_case, run, Case};
 use crate::monitor::{Monitor, Taken};
@@ -93,12 +94,23 @@ fn settled_on_f() -> Vec<Check> {
     ]
 }
 
-/// P6 and P7: the numbers when this user makes the first action.
-fn manager_then_not(first: u32) -> Vec<u32> {
-    let manager = Term::Role(2);
-    let term = Term::join(Operator::Together, manager.clone(), Term::not(manager));
-    let events = [grant(1, 2), action(first), revoke(1, 2), action(1), CLOSE];
-    codes(&answers(3, &term, &[0, 0, 0], &events))
+/// The policy of P6 and P7.
+fn manager_and_not() -> Term {
+    Term::join(Operator::Together, Term::Role(2), Term::not(Term::Role(2)))
+}
+
+/// The events of P6 and P7, with this user making the first action.
+fn manager_then_not(first: u32) -> [u32; 5] {
+    [grant(1, 2), action(first), revoke(1, 2), action(1), CLOSE]
+}
+
+/// The roles at the opening with which 01's first mistake shows. P6 does not tell it: user 1 holds no
+/// role at her last action, which is refused either way. Here she keeps another one.
+const KEEPS_A_ROLE: [u16; 3] = [0, 1, 0];
+
+/// The numbers of these events under the policy of P6 and P7.
+fn manager_codes(user_roles: &[u16], events: &[u32]) -> Vec<u32> {
+    codes(&answers(3, &manager_and_not(), user_roles, events))
 }
 
 /// P8: the statuses after each of four actions by user 1.
@@ -131,10 +143,10 @@ fn settled_on_words() -> Vec<Check> {
 /// The twelve settled examples, and listing L with its printing.
 pub fn settled() -> Vec<Check> {
     let mut checks = settled_on_f();
-    let p7 = manager_then_not(0);
+    let [p6, p7] = [1, 0].map(|first| manager_codes(&[0, 0, 0], &manager_then_not(first)));
     checks.extend([
-        ("P6", manager_then_not(1) == [0, 0, 0, 0, 0]),
-        ("P7", p7[..4] == [0, 0, 0, 9]),
+        ("P6", p6 == [0, 0, 0, 9, 11]),
+        ("P7", p7[..4] == [0, 9, 0, 9]),
         ("P8", three_or_more()[1..] == *"occ"),
         ("P9", one_user_apart() == [0, 9]),
     ]);
@@ -165,8 +177,9 @@ fn dead_end_is_taken() -> bool {
 
 /// The four mistakes that tempt.
 pub fn mistakes() -> Vec<Check> {
+    let outlives_the_role = manager_codes(&KEEPS_A_ROLE, &manager_then_not(1)) == [0; 5];
     vec![
-        ("old actions by today's grants", manager_then_not(1) == [0, 0, 0, 0, 0]),
+        ("old actions by today's grants", outlives_the_role),
         ("greedy giving", not_greedy(Operator::Together)),
         ("greedy giving, apart", not_greedy(Operator::Apart)),
         ("apart compares places", one_user_apart() == [0, 9]),
@@ -177,6 +190,31 @@ pub fn mistakes() -> Vec<Check> {
 #[cfg(test)]
 mod tests {
     use super::*;
+    use crate::policy::ones;
+
+    /// The numbers of a monitor that makes 01's first mistake: before each event the roles kept with
+    /// old actions are brought up to date.
+    fn by_todays_grants(user_roles: &[u16], events: &[u32]) -> Vec<u32> {
+        let opened = Monitor::<Taken>::open(3, 3, &manager_and_not().words(), user_roles);
+        let mut monitor = opened.expect("it opens");
+        let mut numbers = Vec::new();
+        for word in events {
+            let rows = monitor.raw().user_roles;
+            let mut taken = monitor.taken().to_vec();
+            taken.iter_mut().for_each(|action| action.held = ones(rows[action.user]));
+            monitor = monitor.at(taken, false);
+            numbers.push(monitor.step(*word).code);
+        }
+        numbers
+    }
+
+    #[test]
+    fn the_first_mistake_shows_where_another_role_is_kept() {
+        let events = manager_then_not(1);
+        assert_eq!(by_todays_grants(&KEEPS_A_ROLE, &events), [0, 0, 0, 9, 11]);
+        assert_eq!(manager_codes(&KEEPS_A_ROLE, &events), [0; 5]);
+        assert_eq!(by_todays_grants(&[0; 3], &events), manager_codes(&[0; 3], &events));
+    }
 
     #[test]
     fn settled_examples_hold() {

@@ -2,7 +2,7 @@
 //!
 //! - [`terms`]: random terms, also ones that lean on together and apart, and equal forms;
 //! - [`cases`]: random cases and damaged case files;
-//! - [`edges`]: case files at the edges of what 01 allows, and for every refusal;
+//! - [`edges`]: case files at the edges of what 01 allows, for every refusal, and for leavers;
 //! - [`faults`]: policies with faults at known places;
 //! - [`instances`]: raw instances, well formed and malformed in each way that number 15 lists;
 //! - [`calls`]: inputs for single calls, with outputs and workspaces of every length.
@@ -38,6 +38,7 @@ pub fn case_files(seed: u64, count: usize) -> Vec<NamedFile> {
 mod tests {
     use super::*;
     use crate::casefile::judge;
+    use crate::multiset::multiset;
     use crate::policy::{read_term, Operator};
     use std::collections::BTreeSet;
 
@@ -120,6 +121,21 @@ mod tests {
             seen.insert(instance.event(input.word, &mut calls::marked(input.workspace)));
         }
         assert_eq!(seen, BTreeSet::from([0, 1, 2, 3, 4, 5, 7, 8, 9, 10, 11, 12, 13, 15]));
+    }
+
+    #[test]
+    fn multisets_under_a_not_want_a_role_alone() {
+        let answer = |input: &calls::MultisetInput, rows: &[u16]| {
+            let workspace = &mut calls::marked(input.workspace);
+            multiset(input.users, input.roles, &input.words, rows, &input.counts, workspace)
+        };
+        let edges = calls::multiset_edges().into_iter();
+        for (name, input) in edges.filter(|(name, _)| name.starts_with("not role 2")) {
+            let rows = &input.user_roles;
+            let some: Vec<u16> = rows.iter().map(|row| if *row == 0 { 1 } else { *row }).collect();
+            assert_eq!(answer(&input, rows), Ok(!rows.contains(&0)), "{name}");
+            assert_eq!(answer(&input, &some), Ok(true), "{name}");
+        }
     }
 
     #[test]

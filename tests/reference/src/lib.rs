@@ -28,6 +28,8 @@ pub mod enabled;
 pub mod event;
 pub mod examples;
 pub mod generate;
+#[cfg(test)]
+mod leavers;
 pub mod literal;
 pub mod monitor;
 pub mod multiset;

@@ -1,4 +1,5 @@
-//! Definitions 3 to 7 of document 004, rule by rule, for small cases.
+//! Definitions 3 to 7 of document 004, rule by rule, for small cases; rule (4) of Definition 3 is
+//! the one that 02's E3 puts in its place.
 //!
 //! Nothing here is shared with the search: users' roles are a relation, multisets are counts,
 //! traces are lists of events, and processes are labelled transitions.
@@ -124,25 +125,46 @@ mod tests {
         ]
     }
 
-    #[test]
-    fn examples_5_and_6() {
-        let term =
-            Term::join(Operator::Together, Term::Role(MANAGER), Term::not(Term::Role(MANAGER)));
+    /// Examples 5 and 6: a manager, and one who is not.
+    fn manager_and_another() -> Term {
+        let manager = || Term::Role(MANAGER);
+        Term::join(Operator::Together, manager(), Term::not(manager()))
+    }
+
+    /// How many events of Example 5's trace the process of its term accepts from this relation on,
+    /// and whether the whole trace satisfies the term; this user makes the first action.
+    fn followed(assignment: &Assignment, first: usize) -> (usize, bool) {
+        let (term, trace) = (manager_and_another(), example_trace(first));
         let users = BTreeSet::from([ALICE, BOB]);
-        let process = map_term(&term, &users, &Assignment::new(), Reading::UnitFirst);
-        for (first, expected) in [(BOB, true), (ALICE, false)] {
-            let trace = example_trace(first);
-            assert_eq!(trace_satisfies(&trace, 2, &Assignment::new(), &term), expected);
-            assert_eq!(!accepts(&process, &trace).is_empty(), expected);
-            let finished = [&trace[..], &[Event::Done]].concat();
-            assert_eq!(!accepts(&process, &finished).is_empty(), expected);
-            assert!(!accepts(&process, &trace[..3]).is_empty());
-        }
+        let process = map_term(&term, &users, assignment, Reading::UnitFirst);
+        let accepted = |events: &[Event]| !accepts(&process, events).is_empty();
+        let count = (0..=trace.len()).rev().find(|count| accepted(&trace[..*count]));
+        let satisfied = trace_satisfies(&trace, 2, assignment, &term);
+        assert_eq!(accepted(&[&trace[..], &[Event::Done]].concat()), satisfied);
+        (count.expect("no event is accepted at least"), satisfied)
+    }
+
+    /// As the paper gives them, with no other role: there Example 5's trace satisfies the term and
+    /// Example 6's first action is taken. E3 refuses both actions that count on the not, since the
+    /// one who acts holds no role.
+    #[test]
+    fn examples_5_and_6_under_e3() {
+        assert_eq!(followed(&Assignment::new(), BOB), (3, false));
+        assert_eq!(followed(&Assignment::new(), ALICE), (1, false));
+    }
+
+    /// With another role for those who act, all is as the paper says.
+    #[test]
+    fn examples_5_and_6_with_another_role() {
+        let clerks = Assignment::from([(ALICE, CLERK), (BOB, CLERK)]);
+        assert_eq!(followed(&clerks, BOB), (4, true));
+        assert_eq!(followed(&clerks, ALICE), (3, false));
         let twice = users_of(&example_trace(BOB), 2);
-        let manager = Assignment::from([(BOB, MANAGER)]);
         assert_eq!(twice, [0, 2]);
-        assert!(!multiset_satisfies(&twice, &manager, &term));
-        assert!(!multiset_satisfies(&twice, &Assignment::new(), &term));
+        let manager = upd(&clerks, &example_trace(BOB)[..1]);
+        assert!(!multiset_satisfies(&twice, &manager, &manager_and_another()));
+        assert!(!multiset_satisfies(&twice, &clerks, &manager_and_another()));
+        assert!(multiset_satisfies(&vec![1, 1], &manager, &manager_and_another()));
     }
 
     #[test]

@@ -1,5 +1,5 @@
 //! Policies: terms, policy words, unit terms and the normal form (01, "People, roles and policy
-//! words", "When one person meets a unit term" and "Normal form").
+//! words", "When one person meets a unit term" and "Normal form"; 02, E3 for not).
 
 use std::collections::BTreeSet;
 
@@ -43,7 +43,7 @@ pub enum Term {
     Role(usize),
     /// Any of these users who holds some role.
     Set(BTreeSet<usize>),
-    /// Any user who does not meet the inner unit term.
+    /// Any user who holds some role and does not meet the inner unit term.
     Not(Box<Term>),
     /// One or more actions, each by a user who meets the inner unit term.
     Plus(Box<Term>),
@@ -182,7 +182,7 @@ pub fn meets(unit: &Term, user: usize, held: &BTreeSet<usize>) -> bool {
         Term::Everyone => !held.is_empty(),
         Term::Role(role) => held.contains(role),
         Term::Set(users) => users.contains(&user) && !held.is_empty(),
-        Term::Not(inner) => !meets(inner, user, held),
+        Term::Not(inner) => !held.is_empty() && !meets(inner, user, held),
         Term::Join(Operator::Either, left, right) => {
             meets(left, user, held) || meets(right, user, held)
         }
@@ -383,8 +383,9 @@ mod tests {
         assert!(!meets(&Term::Role(0), 0, &some) && meets(&Term::Role(1), 0, &some));
         assert!(!meets(&Term::set(&[0]), 0, &none) && meets(&Term::set(&[0]), 0, &some));
         assert!(!meets(&Term::set(&[1]), 0, &some));
-        assert!(meets(&Term::not(Term::Everyone), 0, &none));
-        assert!(meets(&Term::not(Term::set(&[0])), 0, &none));
+        assert!(!meets(&Term::not(Term::Role(0)), 0, &none));
+        assert!(meets(&Term::not(Term::Role(0)), 0, &some));
+        assert!(!meets(&Term::not(Term::Role(1)), 0, &some));
     }
 
     #[test]

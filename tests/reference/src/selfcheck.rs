@@ -171,8 +171,10 @@ fn check_run(tally: &mut Tally, small: &Small) {
             trace.push(label);
             mask = monitor.mask();
         }
-        if label.is_business() {
+        if let Event::Action { user } = *event {
             tally.cover("actions taken", "actions refused", code == code::ACCEPTED);
+            let has_role = monitor.raw().user_roles[user] != 0;
+            tally.cover("actions tried with a role", "actions tried without a role", has_role);
         }
         let by_bits = raw.step(as_word(*event)).code;
         tally.check("the bits and the roles agree", by_bits == code && raw == monitor.raw(), small);

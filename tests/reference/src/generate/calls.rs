@@ -112,10 +112,11 @@ fn counts(random: &mut Random, users: usize, actions: usize) -> [u8; 16] {
 
 /// A random input for the multiset test.
 pub fn multiset_input(random: &mut Random) -> MultisetInput {
-    let case = match random.below(11) {
+    let case = match random.below(13) {
         0 => cases::misworded(random),
         1 => cases::faulty(random),
         2..=4 => cases::case(random, 5, 3, 70),
+        5 | 6 => cases::leavers_case(random),
         _ => cases::rich_case(random),
     };
     let actions = random.pick(&[0, 1, 2, 2, 3, 3, 4, 5, 6, 12, 13]);
@@ -147,11 +148,19 @@ pub fn multiset_edges() -> Vec<(&'static str, MultisetInput)> {
     };
     let full = MultisetInput { words: vec![0x05000000, 0x01000000], ..counted(&[(0, 5), (1, 7)]) };
     let no_policy = MultisetInput { words: vec![], ..counted(&[(3, 1)]) };
+    let not_role_2 = |counts: &[(usize, u8)], user_roles: [u16; 3]| {
+        let words = Term::plus(Term::not(Term::Role(2))).words();
+        MultisetInput { words, user_roles: user_roles.to_vec(), ..counted(counts) }
+    };
     vec![
         ("P2", counted(&[(0, 2), (1, 1), (2, 1)])),
         ("P3", counted(&[(0, 1), (2, 1)])),
         ("P4", counted(&[(0, 1), (1, 1)])),
         ("empty", base.clone()),
+        ("not role 2, all with a role", not_role_2(&[(0, 1), (1, 2)], [1, 2, 4])),
+        ("not role 2, one of two without a role", not_role_2(&[(0, 1), (1, 2)], [1, 0, 4])),
+        ("not role 2, one alone without a role", not_role_2(&[(2, 1)], [1, 2, 0])),
+        ("not role 2, nobody with a role", not_role_2(&[(0, 6), (1, 6)], [0, 0, 0])),
         ("twelve", full.clone()),
         ("thirteen", counted(&[(0, 6), (1, 7)])),
         ("255 and 255", counted(&[(0, 255), (1, 255)])),

@@ -7,13 +7,14 @@ use crate::examples::{action, grant, revoke, CLOSE};
 use crate::policy::Operator;
 
 /// The kinds of random case files, in turn.
-const KINDS: [&str; 10] = [
+const KINDS: [&str; 11] = [
     "plain",
     "leaning",
     "small",
     "chain",
     "equal",
     "rich",
+    "leavers",
     "damaged",
     "misworded",
     "faulty",
@@ -33,6 +34,7 @@ pub fn random_file(random: &mut Random, turn: usize) -> NamedFile {
             write_case(&equal_case(random, &base))
         }
         "rich" => write_case(&rich_case(random)),
+        "leavers" => write_case(&leavers_case(random)),
         "damaged" => {
             let base = case(random, 4, 4, 60);
             damaged(random, &write_case(&base))
@@ -123,6 +125,32 @@ pub fn rich_case(random: &mut Random) -> Case {
         }
     };
     let events = (0..random.between(4, 24)).map(|_| act(random)).collect();
+    Case { users: users as u8, roles: roles as u8, policy, user_roles, events }
+}
+
+/// A random case in which users come and go under a policy with a not in most operands: some lose
+/// every role that they hold, and act all the same; some never hold one.
+pub fn leavers_case(random: &mut Random) -> Case {
+    let users = random.between(2, 5);
+    let roles = random.between(1, 3);
+    let operands = random.between(1, 4);
+    let policy = terms::denying(random, Style { users, roles, lean: 80 }, operands).words();
+    let user_roles = user_roles(random, users, roles);
+    let mut events = Vec::new();
+    for _ in 0..random.between(3, 12) {
+        let user = random.below(users) as u32;
+        match random.below(8) {
+            0..=3 => events.push(action(user)),
+            4 | 5 => {
+                events.extend((0..roles as u32).map(|role| revoke(user, role)));
+                events.push(action(user));
+            }
+            _ => events.push(event(random, users, roles)),
+        }
+    }
+    if random.percent(50) {
+        events.push(CLOSE);
+    }
     Case { users: users as u8, roles: roles as u8, policy, user_roles, events }
 }
 

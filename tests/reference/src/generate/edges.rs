@@ -1,5 +1,5 @@
-//! Case files at the edges of what 01 allows, and at least one for every refusal number that a
-//! case file can bring about.
+//! Case files at the edges of what 01 allows, at least one for every refusal number that a case file
+//! can bring about, and users without a role under a not.
 
 use super::{faults, NamedFile};
 use crate::casefile::{join_parts, write_case, Case};
@@ -257,6 +257,45 @@ fn closes() -> Vec<NamedFile> {
     ]
 }
 
+/// A case with a name that says what it tries.
+pub type NamedCase = (String, Case);
+
+/// The base case with this policy, these rows of roles and these events.
+fn run(name: &str, policy: Term, user_roles: [u16; 3], events: &[u32]) -> NamedCase {
+    let (user_roles, events) = (user_roles.to_vec(), events.to_vec());
+    (name.to_string(), Case { policy: policy.words(), user_roles, events, ..base() })
+}
+
+/// P6 and P7, and P6 with another role for the one who acts.
+fn manager_then_not() -> Vec<NamedCase> {
+    let policy = || Term::join(Operator::Together, Term::Role(2), Term::not(Term::Role(2)));
+    let events = |first| [grant(1, 2), action(first), revoke(1, 2), action(1), CLOSE];
+    vec![
+        run("P6", policy(), [0; 3], &events(1)),
+        run("P7", policy(), [0; 3], &events(0)),
+        run("P6 with another role", policy(), [0, 1, 0], &events(1)),
+    ]
+}
+
+/// Users without a role under policies with a not (02, E3): two leave and try to act again, one is
+/// given a first role in between, and after the close a leaver tries once more.
+pub fn leavers() -> Vec<NamedCase> {
+    let (not, plus, anna) = (Term::not, Term::plus, || Term::set(&[0]));
+    let together = |left, right| Term::join(Operator::Together, left, right);
+    let policies = [
+        ("not Anna", plus(not(anna()))),
+        ("not not Anna", plus(not(not(anna())))),
+        ("not everyone", plus(not(Term::Everyone))),
+        ("not not everyone", plus(not(not(Term::Everyone)))),
+        ("role 0 and not role 0", together(Term::Role(0), not(Term::Role(0)))),
+    ];
+    let all_act = [action(0), action(1), action(2)];
+    let leaving = [revoke(1, 1), action(1), revoke(0, 0), action(0), grant(2, 1), action(2)];
+    let events = [&all_act[..], &leaving, &[CLOSE, action(1)]].concat();
+    let cases = policies.map(|(name, policy)| run(name, policy, [1, 2, 0], &events));
+    [manager_then_not(), cases.to_vec()].concat()
+}
+
 /// A file with a name.
 fn named(name: &str, bytes: Vec<u8>) -> NamedFile {
     (name.to_string(), bytes)
@@ -333,6 +372,7 @@ fn shifted_parts() -> Vec<NamedFile> {
 /// All edges; the names are all different.
 pub fn all() -> Vec<NamedFile> {
     let mut files = vec![("listing L".to_string(), LISTING_L.to_vec())];
+    files.extend(leavers().into_iter().map(|(name, case)| (name, write_case(&case))));
     for more in [
         policy_lengths(),
         counts(),

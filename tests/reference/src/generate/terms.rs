@@ -136,16 +136,41 @@ pub fn equal_form(random: &mut Random, term: &Term, steps: usize) -> Term {
 /// A random term of this many operands that many lists of actions fit: each operand is one word or
 /// a plus over one word, most operators are together or apart.
 pub fn rich(random: &mut Random, style: Style, operands: usize) -> Term {
+    joined(random, style, operands, leaf)
+}
+
+/// As rich, but with a not in most operands.
+pub fn denying(random: &mut Random, style: Style, operands: usize) -> Term {
+    joined(random, style, operands, denial)
+}
+
+/// A not over one word, over another not or over two words joined, at times one word without a not.
+fn denial(random: &mut Random, style: Style) -> Term {
+    match random.below(8) {
+        0 => leaf(random, style),
+        1 => Term::not(unit(random, style, 2)),
+        2 => Term::not(unit(random, style, 3)),
+        _ => Term::not(leaf(random, style)),
+    }
+}
+
+/// A random term of this many operands, each such a unit term or a plus over one.
+fn joined(
+    random: &mut Random,
+    style: Style,
+    operands: usize,
+    operand: fn(&mut Random, Style) -> Term,
+) -> Term {
     if operands == 1 {
-        let leaf = leaf(random, style);
-        return if random.percent(40) { Term::plus(leaf) } else { leaf };
+        let unit = operand(random, style);
+        return if random.percent(40) { Term::plus(unit) } else { unit };
     }
     let (together, apart) = (Operator::Together, Operator::Apart);
     let operators = [together, together, together, apart, apart, Operator::Either, Operator::Both];
     let operator = random.pick(&operators);
     let left = random.between(1, operands - 1);
-    let first = rich(random, style, left);
-    Term::join(operator, first, rich(random, style, operands - left))
+    let first = joined(random, style, left, operand);
+    Term::join(operator, first, joined(random, style, operands - left, operand))
 }
 
 /// A random chain of one operator, of exactly this many operands of one word each.

@@ -1,4 +1,4 @@
-//! Definition 3: multiset satisfaction.
+//! Definition 3: multiset satisfaction, with rule (4) as 02's E3 has it.
 //!
 //! Each arm is one rule read from its conclusion to its premises; the relation is the smallest one
 //! closed under the rules, so a multiset satisfies a term only if some rule ends in that.
@@ -54,7 +54,12 @@ fn user_satisfies(user: usize, like: &Multiset, assignment: &Assignment, term: &
         Term::Everyone => holds_some_role(assignment, user),
         Term::Role(role) => assignment.contains(&(user, *role)),
         Term::Set(users) => users.contains(&user) && holds_some_role(assignment, user),
-        Term::Not(inner) => !multiset_satisfies(&singleton(user, like), assignment, inner),
+        // 02, E3: "a person meets not exactly if she holds a role and does not meet the inner term".
+        // The paper's rule has the second premise alone: {u} does not satisfy the inner term.
+        Term::Not(inner) => {
+            holds_some_role(assignment, user)
+                && !multiset_satisfies(&singleton(user, like), assignment, inner)
+        }
         Term::Plus(_) | Term::Join(_, _, _) => false,
     }
 }

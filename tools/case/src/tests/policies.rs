@@ -53,6 +53,14 @@ fn equal_policies_have_one_normal_form() {
 }
 
 #[test]
+fn not_is_never_taken_away() {
+    for policy in ["not not everyone", "apart(not not not set 3, plus not not role 0)"] {
+        let normal = printed(Verb::Normal, &with_policy(policy));
+        assert_eq!(normal, Ok(format!("{policy}\n")));
+    }
+}
+
+#[test]
 fn the_counts_and_the_policy_are_enough() {
     let policy = "users 1\nroles 1\npolicy plus everyone\n";
     assert_eq!(printed(Verb::Normal, policy).as_deref(), Ok("plus everyone\n"));

@@ -222,9 +222,13 @@ fn asks_for_one_more() {
 }
 
 #[test]
-fn not_without_role() {
-    means("not-without-role", |roles, users| match users {
-        [one, other] => !roles.has(*one, 0) && roles.any(*other) && !roles.has(*other, 0),
-        _ => false,
+fn leaver() {
+    means("leaver", |roles, users| {
+        !users.is_empty() && users.iter().all(|user| *user != 0 && roles.any(*user))
     });
+}
+
+#[test]
+fn not_not_everyone() {
+    means("not-not-everyone", |roles, users| matches!(users, [user] if roles.any(*user)));
 }
