@@ -59,7 +59,7 @@ module _ (r : Run) where
   answer : (w n : ℕ) → 8192 ≤ n → eventCode (left r) w n ≡ answerTo o l (next r w)
   answer = answered o (r .opens) (left r) l follows
 
-  open-answer : (w n : ℕ) → 8192 ≤ n → hasClosed l ≡ false → eventCode (left r) w n ≡ openAnswer o l (next r w)
+  pub open-answer : (w n : ℕ) → 8192 ≤ n → hasClosed l ≡ false → eventCode (left r) w n ≡ openAnswer o l (next r w)
   open-answer w n long k = answer w n long ∙ ap (λ b. cond b CLOSED (openAnswer o l (next r w))) k
 
   is-formed : So (wellFormed φ)

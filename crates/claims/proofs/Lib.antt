@@ -10,5 +10,7 @@ pub mod Alike
 pub mod EqualForms
 -- The mask kept beside a monitor.
 pub mod KeptMask
+-- Users without a role.
+pub mod Leavers
 -- The settled examples.
 pub mod Examples

@@ -21,6 +21,7 @@ pub mod Orders
 pub mod Notes
 pub mod Renaming
 pub mod Multisets
+pub mod Leavers
 pub mod Traces
 pub mod Processes
 pub mod Endings

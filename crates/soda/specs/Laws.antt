@@ -1,17 +1,19 @@
--- What is proved of lists, of digits, of terms and their words, of the table, and of the actions of a trace. Statements only.
+-- What is proved of lists, of digits, of terms and their words, of the table, of users without a role, and of the actions of a trace. Statements
+-- only.
 use mathlib.Core.Path.{_≡_}
 use mathlib.Core.Logic.{_↔_}
-use mathlib.Core.Bool.{Bool, false, So, not, _&&_, _||_}
+use mathlib.Core.Bool.{Bool, true, false, So, not, _&&_, _||_}
 use mathlib.Core.List.{List, [], _∷_, _++_}
 use Prim.Native.Nat.{ℕ, _-_, _^_, _≤_, _<_}
 use lib.Dec.{eqb}
 use lib.ListN.{length, getD, take, drop}
 use Rattle.soda.specs.Lists.{all, firstFailing, from}
 use Rattle.soda.specs.Bits.{bit, setBit, clearBit, number}
-use Rattle.soda.specs.Terms.{Op, Term, sameOp, size, subterms, termAt, marks}
+use Rattle.soda.specs.Terms.{Op, Term, ¬ᵗ_, sameOp, size, subterms, termAt, marks}
 use Rattle.soda.specs.Words.{opKind, encode, fits, wordsLe, termLe}
-use Rattle.soda.specs.Roles.{UA}
-use Rattle.soda.specs.Tables.{acts, bitTable}
+use Rattle.soda.specs.Roles.{UA, assigned, meets}
+use Rattle.soda.specs.Tables.{acts, table, bitTable, metBits}
+use Rattle.soda.specs.Multisets.{Multiset, SatM}
 use Rattle.soda.specs.Traces.{Trace, upd, executed}
 use Rattle.soda.specs.declared.Action.{Action}
 
@@ -94,6 +96,28 @@ NewUserIsRenamed =
     → acts (λ a. a .user) u l ≡ false → acts (λ a. a .user) v l ≡ false
     → bitTable (λ a. a .user) (λ a. a .met) e φ i (l ++ (record { user = u; met = met } ∷ []))
     ≡ bitTable (λ a. a .user) (λ a. a .met) e φ i (l ++ (record { user = v; met = met } ∷ []))
+
+-- ── users without a role (document 02, E3) ──
+-- They meet no unit term, so that not twice is met as its inner term is ..
+abbrev pub NoRoleMeetsNothing : Type 0
+NoRoleMeetsNothing = (φ : Term) (u : ℕ) → meets φ u 0 ≡ false
+
+abbrev pub NotTwice : Type 0
+NotTwice = (φ : Term) (u h : ℕ) → meets (¬ᵗ (¬ᵗ φ)) u h ≡ meets φ u h
+
+-- .. they occur in no multiset that satisfies a term by Definition 3 ..
+abbrev pub WhoSatisfiesHoldsRole : Type 0
+WhoSatisfiesHoldsRole = (ua : UA) (U : Multiset) (φ : Term) → SatM ua U φ → (u : ℕ) → 1 ≤ U u → (r : ℕ) × So (assigned ua u r)
+
+-- .. and nothing is noted for them.
+abbrev pub NoRoleNotesNothing : Type 0
+NoRoleNotesNothing = (φ : Term) (u : ℕ) → metBits φ u 0 ≡ 0
+
+-- Where one action met nothing the actions are not possible, whatever is kept of an action.
+abbrev pub UnmetIsImpossible : Type 1
+UnmetIsImpossible =
+    (A : Type 0) (user : A → ℕ) (met : Term → ℕ → A → Bool) (φ : Term) (i : ℕ) (s t : List A) (a : A)
+    → ((ψ : Term) (k : ℕ) → met ψ k a ≡ false) → table user met true φ i (s ++ (a ∷ t)) ≡ false
 
 -- ── traces ──
 -- The actions of two traces in a row: those of the second with the roles that the first leaves.

@@ -1,0 +1,49 @@
+-- Users without a role (document 02, E3: "A leaver must not pass"), be it that they never had one or have lost the last, under any policy.
+-- Statements only.
+use mathlib.Core.Path.{_≡_}
+use mathlib.Core.Logic.{_≢_}
+use mathlib.Core.Bool.{true, false, So, not}
+use mathlib.Core.List.{List, [], _∷_, _++_}
+use Prim.Native.Nat.{ℕ, _≤_, _<_}
+use lib.Dec.{leb}
+use lib.ListN.{getD}
+use Rattle.soda.specs.Bits.{bit}
+use Rattle.soda.specs.Roles.{roles}
+use Rattle.soda.specs.Traces.{upd}
+use Rattle.policy.specs.Codes.{ACCEPTED, FULL, NOT-POSSIBLE}
+use Rattle.policy.specs.Refusals.{Refusals, _gives_, code}
+use Rattle.instance.specs.Configurations.{held}
+use Rattle.monitor.specs.declared.Monitor.{Monitor}
+use Rattle.monitor.specs.declared.Event.the-variants.{Acts}
+use Rattle.monitor.specs.Monitors.{Opening, admission}
+use Rattle.monitor.specs.Events.{eventIn, entry, eventCode}
+use Rattle.monitor.specs.Enabled.{enabledMask}
+use Rattle.multiset.specs.MultisetTest.{letterN, testOf}
+use Rattle.claims.specs.Accuracy.{Run, left, history, next, traceOf, hasClosed, hasRoom, Testable}
+
+-- In a run, an action by a user who holds no role after its grants and revocations is answered 9, where no close has been accepted and fewer
+-- than twelve actions have.
+abbrev pub LeaverGetsNine : Type 0
+LeaverGetsNine =
+    (r : Run) (w u a n : ℕ) → 8192 ≤ n → next r w ≡ Acts u a → roles (upd (r .start .rows) (traceOf (history r))) u ≡ 0
+    → So (not (hasClosed (history r))) → So (hasRoom (history r) (Acts u a)) → eventCode (left r) w n ≡ NOT-POSSIBLE
+
+-- On any monitor: 12, 15, 10 and 8 as for anybody else, and 9 for all that is left; n is the length of the workspace.
+abbrev pub leaverRefusals : Monitor → ℕ → ℕ → ℕ → Refusals
+leaverRefusals m u a n =
+    admission m n ++ (entry (m .instance) (Acts u a) ++ ((leb 12 (m .instance .taken) gives FULL) ∷ (true gives NOT-POSSIBLE) ∷ []))
+
+-- An action by a user who holds no role there is answered so, which is never 0 ..
+abbrev pub LeaverIsTurnedAway : Type 0
+LeaverIsTurnedAway =
+    (m : Monitor) (w u a n : ℕ) → eventIn m w ≡ Acts u a → held (m .configuration) u ≡ 0
+    → (eventCode m w n ≡ code (leaverRefusals m u a n)) × (eventCode m w n ≢ ACCEPTED)
+
+-- .. the user, a byte, is not among those who may act ..
+abbrev pub LeaverMayNotAct : Type 0
+LeaverMayNotAct = (m : Monitor) (u n : ℕ) → u < 256 → held (m .configuration) u ≡ 0 → bit u (enabledMask m n) ≡ false
+
+-- .. and a multiset in which the user occurs gets the answer no.
+abbrev pub LeaverIsInNoMultiset : Type 0
+LeaverIsInNoMultiset =
+    (o : Opening) (counts : List ℕ) (u n : ℕ) → Testable o counts n → roles (o .rows) u ≡ 0 → 1 ≤ getD counts u 0 → testOf o counts n .letter ≡ letterN
