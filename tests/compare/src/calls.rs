@@ -78,10 +78,12 @@ pub fn compare(seed: u64, count: usize) -> Result<Report, String> {
         calls.push(call);
         kinds.push(faults.seen());
     }
-    calls.extend(events::compare(&library, seed, count));
+    let (events, leavers) = events::compare(&library, seed, count);
+    calls.extend(events);
+    kinds.push(leavers);
     let (enabled, masks) = enabled::compare(&library, seed, count);
     calls.push(enabled);
-    kinds.push(masks);
+    kinds.extend(masks);
     let mut report = Report::default();
     for call in calls {
         report.groups.push(call.group);

@@ -9,6 +9,7 @@ use reference::casefile::{self, read_case, Case};
 use reference::generate::{cases, edges, NamedFile, Random};
 
 use crate::faults::{Faults, Policy};
+use crate::leavers::Leavers;
 use crate::report::{Group, Report, Seen};
 
 /// The numbers that refuse a case file or its opening.
@@ -31,6 +32,7 @@ pub struct Judge {
     groups: BTreeMap<String, Group>,
     refusals: Seen,
     faults: Faults,
+    leavers: Leavers,
     events: Seen,
     letters: Seen,
 }
@@ -56,6 +58,7 @@ impl Judge {
             groups: BTreeMap::new(),
             refusals: Seen::new("refused case files", wanted(REFUSALS)),
             faults: Faults::new("case files", every_number),
+            leavers: Leavers::of_events("case files", every_number),
             events: Seen::new("events", wanted(EVENTS)),
             letters: Seen::new("statuses", wanted(LETTERS)),
         })
@@ -72,6 +75,7 @@ impl Judge {
         if let Ok(ran) = &ran {
             self.count(bytes, &ran.output);
         }
+        read_case(bytes).iter().for_each(|case| self.leavers.count_events(case));
         let seed = self.seed;
         let entry = self.groups.entry(group.to_string()).or_insert_with(|| Group::new(group));
         entry.check(same, || {
@@ -134,7 +138,13 @@ impl Judge {
     pub fn report(self) -> Report {
         Report {
             groups: self.groups.into_values().collect(),
-            seen: vec![self.refusals, self.faults.seen(), self.events, self.letters],
+            seen: vec![
+                self.refusals,
+                self.faults.seen(),
+                self.leavers.seen(),
+                self.events,
+                self.letters,
+            ],
         }
     }
 }

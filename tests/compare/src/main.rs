@@ -14,6 +14,7 @@ mod calls;
 mod faults;
 mod fuzz;
 mod judge;
+mod leavers;
 mod lent;
 mod library;
 mod report;

@@ -8,13 +8,14 @@ use oskhrein::raw::{Calls, Monitor};
 use reference::casefile::{read_case, Case};
 use reference::generate::calls::{enabled_edges, enabled_input, EnabledInput};
 use reference::generate::instances::flipped;
-use reference::generate::{cases, Random};
+use reference::generate::{cases, edges, Random};
 use reference::monitor::{Monitor as Grown, Taken, MOST_ACTIONS};
 use reference::raw::RawInstance;
 use reference::workspace::WORDS;
 
 use super::left::Left;
 use super::{byte, Call, RUN_EVERY};
+use crate::leavers::Leavers;
 use crate::lent::Lent;
 use crate::library::laid_out;
 use crate::report::Seen;
@@ -59,17 +60,21 @@ struct Enabled<'a> {
     library: &'a Calls,
     call: Call,
     kinds: Seen,
+    leavers: Leavers,
 }
 
 /// Compares on all edges, on so many random instances, on as many with a bit flipped, and along
 /// runs.
-pub fn compare(library: &Calls, seed: u64, count: usize) -> (Call, Seen) {
+pub fn compare(library: &Calls, seed: u64, count: usize) -> (Call, [Seen; 2]) {
     let call = Call::new("enabled", &[0, 12, 15]);
     let kinds = Seen::kinds("enabled", KINDS.map(|(name, _)| name));
-    let mut enabled = Enabled { library, call, kinds };
+    let mut enabled = Enabled { library, call, kinds, leavers: Leavers::of_masks("enabled") };
     let mut random = Random::new(seed);
     for (name, input) in enabled_edges(&mut random) {
         enabled.check(&name, &input);
+    }
+    for (name, case) in edges::leavers() {
+        enabled.run(&name, &case);
     }
     for turn in 0..count {
         if enabled.call.group.is_enough() {
@@ -84,7 +89,7 @@ pub fn compare(library: &Calls, seed: u64, count: usize) -> (Call, Seen) {
             enabled.run(&format!("run {turn} of seed {seed}"), &case);
         }
     }
-    (enabled.call, enabled.kinds)
+    (enabled.call, [enabled.kinds, enabled.leavers.seen()])
 }
 
 impl Enabled<'_> {
@@ -134,6 +139,7 @@ impl Enabled<'_> {
         let Ok(mut grown) = opened else {
             return;
         };
+        self.leavers.count_masks(case);
         let mut monitor = Monitor::BLANK;
         self.library.open(&mut monitor, users, roles, policy, user_roles, &mut 0);
         let mut kept = self.follow(label, &monitor, &grown);

@@ -6,31 +6,38 @@ use oskhrein::raw::{Calls, Monitor};
 use reference::casefile::{read_case, Case};
 use reference::generate::calls::{event_edges, event_input, EventInput};
 use reference::generate::instances::flipped;
-use reference::generate::{cases, Random};
+use reference::generate::{cases, edges, Random};
 use reference::monitor::{Monitor as Grown, Taken};
 use reference::workspace::WORDS;
 
 use super::left::Left;
 use super::{byte, Call, RUN_EVERY};
+use crate::leavers::Leavers;
 use crate::lent::Lent;
 use crate::library::laid_out;
+use crate::report::Seen;
 
 /// Both calls, with the library that is asked.
 struct Events<'a> {
     library: &'a Calls,
     event: Call,
     status: Call,
+    leavers: Leavers,
 }
 
 /// Compares on all edges, on so many random instances, on as many with a bit flipped, and along
 /// runs.
-pub fn compare(library: &Calls, seed: u64, count: usize) -> [Call; 2] {
+pub fn compare(library: &Calls, seed: u64, count: usize) -> ([Call; 2], Seen) {
     let event = Call::new("event", &[0, 7, 8, 9, 10, 11, 12, 15]);
     let status = Call::new("status", &[12, 15, b'c', b'd', b'o']);
-    let mut events = Events { library, event, status };
+    let leavers = Leavers::of_events("event", true);
+    let mut events = Events { library, event, status, leavers };
     let mut random = Random::new(seed);
     for (name, input) in event_edges(&mut random) {
         events.check(&name, &input);
+    }
+    for (name, case) in edges::leavers() {
+        events.run(&name, &case);
     }
     for turn in 0..count {
         if events.event.group.is_enough() || events.status.group.is_enough() {
@@ -45,7 +52,7 @@ pub fn compare(library: &Calls, seed: u64, count: usize) -> [Call; 2] {
             events.run(&format!("run {turn} of seed {seed}"), &case);
         }
     }
-    [events.event, events.status]
+    ([events.event, events.status], events.leavers.seen())
 }
 
 impl Events<'_> {
@@ -105,6 +112,7 @@ impl Events<'_> {
         let Ok(mut grown) = opened else {
             return;
         };
+        self.leavers.count_events(case);
         let mut monitor = Monitor::BLANK;
         self.library.open(&mut monitor, users, roles, policy, user_roles, &mut 0);
         for (place, word) in events.iter().enumerate() {
