@@ -75,7 +75,7 @@ enum {
     OSKHREIN_KIND_EVERYONE = 1,
     OSKHREIN_KIND_ROLE = 2,     /* operand: the role's number */
     OSKHREIN_KIND_SET = 3,      /* operand: a mask of users, not zero, bit u for user u */
-    OSKHREIN_KIND_NOT = 4,      /* one side */
+    OSKHREIN_KIND_NOT = 4,      /* one side; no user without a role meets it */
     OSKHREIN_KIND_PLUS = 5,     /* one side */
     OSKHREIN_KIND_EITHER = 6,   /* two sides */
     OSKHREIN_KIND_BOTH = 7,     /* two sides */

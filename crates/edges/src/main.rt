@@ -355,7 +355,7 @@ fn settled() {
     event(b"P7, action without a role: ", gone, 0x0100_0100);
 }
 
-// Not user 0: by user 1, who then leaves, by user 0, and by both once they have left.
+// Not user 0: neither user may act without a role.
 fn leavers() {
     let words = [NOT, USER_0];
     let rows = [1u16, 1];
@@ -370,12 +370,30 @@ fn leavers() {
         b"both have left, who may act: ",
         both.enabled(&mut workspace),
     );
+}
+
+// Not user 0: what user 1 did before leaving stays.
+fn acted_before() {
+    let words = [NOT, USER_0];
+    let rows = [1u16, 1];
+    let opened = Monitor::open(2, 1, &words, &rows).monitor;
     let acted = event(b"user 1 before leaving: ", opened, 0x0100_0100);
     let left = event(b"user 1 leaves then: ", acted, 0x0300_0100);
     event(b"close: ", left, 0x0400_0000);
-    let none = [0u16, 0];
+}
+
+// Not user 0: a multiset of user 1, with a role and without.
+fn multisets() {
+    let words = [NOT, USER_0];
     let mut counts = [0u8; 16];
     counts[1] = 1;
+    let mut workspace = [0u32; 8192];
+    let some = [0u16, 1];
+    say_verdict(
+        b"multiset of user 1 with a role: ",
+        multiset::satisfies(2, 1, &words, &some, counts, &mut workspace),
+    );
+    let none = [1u16, 0];
     say_verdict(
         b"multiset of user 1 without a role: ",
         multiset::satisfies(2, 1, &words, &none, counts, &mut workspace),
@@ -402,5 +420,7 @@ fn main() {
     no_place();
     settled();
     leavers();
+    acted_before();
+    multisets();
     not_twice();
 }
