@@ -10,7 +10,7 @@ pub mod Alike
 pub mod EqualForms
 -- The mask kept beside a monitor.
 pub mod KeptMask
--- Users without a role.
-pub mod Leavers
+-- Users who hold no role.
+pub mod Unassigned
 -- The settled examples.
 pub mod Examples

@@ -3,5 +3,5 @@ pub mod Calls
 pub mod Accuracy
 pub mod EqualForms
 pub mod KeptMask
-pub mod Leavers
+pub mod Unassigned
 pub mod Examples

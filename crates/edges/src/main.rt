@@ -356,7 +356,7 @@ fn settled() {
 }
 
 // Not user 0: neither user may act without a role.
-fn leavers() {
+fn unassigned() {
     let words = [NOT, USER_0];
     let rows = [1u16, 1];
     let mut workspace = [0u32; 8192];
@@ -419,7 +419,7 @@ fn main() {
     no_unit_terms();
     no_place();
     settled();
-    leavers();
+    unassigned();
     acted_before();
     multisets();
     not_twice();

@@ -21,7 +21,7 @@ pub mod Orders
 pub mod Notes
 pub mod Renaming
 pub mod Multisets
-pub mod Leavers
+pub mod Unassigned
 pub mod Traces
 pub mod Processes
 pub mod Endings

@@ -1,5 +1,4 @@
--- What is proved of lists, of digits, of terms and their words, of the table, of users without a role, and of the actions of a trace. Statements
--- only.
+-- What is proved of lists, of digits, of terms and their words, of the table, of unassigned users, and of the actions of a trace. Statements only.
 use mathlib.Core.Path.{_≡_}
 use mathlib.Core.Logic.{_↔_}
 use mathlib.Core.Bool.{Bool, true, false, So, not, _&&_, _||_}
@@ -97,10 +96,10 @@ NewUserIsRenamed =
     → bitTable (λ a. a .user) (λ a. a .met) e φ i (l ++ (record { user = u; met = met } ∷ []))
     ≡ bitTable (λ a. a .user) (λ a. a .met) e φ i (l ++ (record { user = v; met = met } ∷ []))
 
--- ── users without a role (document 02, E3) ──
+-- ── unassigned users: those who hold no role (document 02, E3: a leaver) ──
 -- They meet no unit term, so that not twice is met as its inner term is ..
-abbrev pub NoRoleMeetsNothing : Type 0
-NoRoleMeetsNothing = (φ : Term) (u : ℕ) → meets φ u 0 ≡ false
+abbrev pub UnassignedMeetsNothing : Type 0
+UnassignedMeetsNothing = (φ : Term) (u : ℕ) → meets φ u 0 ≡ false
 
 abbrev pub NotTwice : Type 0
 NotTwice = (φ : Term) (u h : ℕ) → meets (¬ᵗ (¬ᵗ φ)) u h ≡ meets φ u h
@@ -110,8 +109,8 @@ abbrev pub WhoSatisfiesHoldsRole : Type 0
 WhoSatisfiesHoldsRole = (ua : UA) (U : Multiset) (φ : Term) → SatM ua U φ → (u : ℕ) → 1 ≤ U u → (r : ℕ) × So (assigned ua u r)
 
 -- .. and nothing is noted for them.
-abbrev pub NoRoleNotesNothing : Type 0
-NoRoleNotesNothing = (φ : Term) (u : ℕ) → metBits φ u 0 ≡ 0
+abbrev pub UnassignedNotesNothing : Type 0
+UnassignedNotesNothing = (φ : Term) (u : ℕ) → metBits φ u 0 ≡ 0
 
 -- Where one action met nothing the actions are not possible, whatever is kept of an action.
 abbrev pub UnmetIsImpossible : Type 1

@@ -14,11 +14,11 @@ use Rattle.soda.specs.Roles.{roles}
 use Rattle.soda.specs.Terms.{Term, everyone, role, set, ¬ᵗ_, _⁺, bin, unit, wellFormed, subterms, marks}
 use Rattle.soda.proofs.Bools.{by-test}
 use Rattle.soda.proofs.Lists.{range-length, map-below}
-use Rattle.soda.proofs.Leavers.{no-role-notes-nothing}
+use Rattle.soda.proofs.Unassigned.{unassigned-notes-nothing}
 use Rattle.policy.specs.Words.{decode}
 use Rattle.policy.specs.Reading.{lengthOk, isFormed, unitsOf}
 use Rattle.policy.proofs.Masks.{number-append}
-use Rattle.units.specs.Units.{unitWords, metIn, metOf, metEach, EachIsMet, NoRoleMeetsNone, SomeUnit, OneTerm, ZeroIsNoTerm, ElseOneTerm}
+use Rattle.units.specs.Units.{unitWords, metIn, metOf, metEach, EachIsMet, UnassignedMeetsNone, SomeUnit, OneTerm, ZeroIsNoTerm, ElseOneTerm}
 
 pub some-unit : SomeUnit
 some-unit everyone = omega arith
@@ -55,13 +55,13 @@ else-one-term ws n = go (lengthOk (length ws)) (decode ws) refl refl n
     go true none l d n = absurd (n refl)
     go true (some φ) l d n = given φ (record { long = l; is = d; formed = by-test (wellFormed φ) (λ f. f) (λ f. absurd (n (rw f))) })
 
-pub no-role-meets-none : NoRoleMeetsNone
+pub unassigned-meets-none : UnassignedMeetsNone
 unfolding metOf
-no-role-meets-none ws u = go (lengthOk (length ws)) (decode ws)
+unassigned-meets-none ws u = go (lengthOk (length ws)) (decode ws)
   where
     go : (b : Bool) (x : Option Term) → cond b (metIn x u 0) 0 ≡ 0
     go true none = refl
-    go true (some φ) = no-role-notes-nothing φ u
+    go true (some φ) = unassigned-notes-nothing φ u
     go false x = refl
 
 pub each-is-met : EachIsMet

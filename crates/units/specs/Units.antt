@@ -45,9 +45,9 @@ surveyOf users roles ws u h = surveyIn (eqb (code (refusals users roles ws)) ACC
 abbrev pub EachIsMet : Type 0
 EachIsMet = (ws rows : List ℕ) (u : ℕ) → length rows ≤ 16 → u < length rows → getD (metEach ws rows) u 0 ≡ metOf ws u (roles rows u)
 
--- A user without a role meets none (document 02, E3).
-abbrev pub NoRoleMeetsNone : Type 0
-NoRoleMeetsNone = (ws : List ℕ) (u : ℕ) → metOf ws u 0 ≡ 0
+-- An unassigned user, who holds no role, meets none (document 02, E3).
+abbrev pub UnassignedMeetsNone : Type 0
+UnassignedMeetsNone = (ws : List ℕ) (u : ℕ) → metOf ws u 0 ≡ 0
 
 -- A term has a word that begins a unit term.
 abbrev pub SomeUnit : Type 0

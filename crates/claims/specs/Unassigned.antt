@@ -1,4 +1,4 @@
--- Users without a role (document 02, E3: "A leaver must not pass"), be it that they never had one or have lost the last, under any policy.
+-- Unassigned users, who hold no role: they never had one, or have lost the last (document 02, E3: "A leaver must not pass"). Under any policy.
 -- Statements only.
 use mathlib.Core.Path.{_≡_}
 use mathlib.Core.Logic.{_≢_}
@@ -23,27 +23,27 @@ use Rattle.claims.specs.Accuracy.{Run, left, history, next, traceOf, has
 
 -- In a run, an action by a user who holds no role after its grants and revocations is answered 9, where no close has been accepted and fewer
 -- than twelve actions have.
-abbrev pub LeaverGetsNine : Type 0
-LeaverGetsNine =
+abbrev pub UnassignedGetsNine : Type 0
+UnassignedGetsNine =
     (r : Run) (w u a n : ℕ) → 8192 ≤ n → next r w ≡ Acts u a → roles (upd (r .start .rows) (traceOf (history r))) u ≡ 0
     → So (not (hasClosed (history r))) → So (hasRoom (history r) (Acts u a)) → eventCode (left r) w n ≡ NOT-POSSIBLE
 
 -- On any monitor: 12, 15, 10 and 8 as for anybody else, and 9 for all that is left; n is the length of the workspace.
-abbrev pub leaverRefusals : Monitor → ℕ → ℕ → ℕ → Refusals
-leaverRefusals m u a n =
+abbrev pub unassignedRefusals : Monitor → ℕ → ℕ → ℕ → Refusals
+unassignedRefusals m u a n =
     admission m n ++ (entry (m .instance) (Acts u a) ++ ((leb 12 (m .instance .taken) gives FULL) ∷ (true gives NOT-POSSIBLE) ∷ []))
 
 -- An action by a user who holds no role there is answered so, which is never 0 ..
-abbrev pub LeaverIsTurnedAway : Type 0
-LeaverIsTurnedAway =
+abbrev pub UnassignedIsTurnedAway : Type 0
+UnassignedIsTurnedAway =
     (m : Monitor) (w u a n : ℕ) → eventIn m w ≡ Acts u a → held (m .configuration) u ≡ 0
-    → (eventCode m w n ≡ code (leaverRefusals m u a n)) × (eventCode m w n ≢ ACCEPTED)
+    → (eventCode m w n ≡ code (unassignedRefusals m u a n)) × (eventCode m w n ≢ ACCEPTED)
 
 -- .. the user, a byte, is not among those who may act ..
-abbrev pub LeaverMayNotAct : Type 0
-LeaverMayNotAct = (m : Monitor) (u n : ℕ) → u < 256 → held (m .configuration) u ≡ 0 → bit u (enabledMask m n) ≡ false
+abbrev pub UnassignedMayNotAct : Type 0
+UnassignedMayNotAct = (m : Monitor) (u n : ℕ) → u < 256 → held (m .configuration) u ≡ 0 → bit u (enabledMask m n) ≡ false
 
 -- .. and a multiset in which the user occurs gets the answer no.
-abbrev pub LeaverIsInNoMultiset : Type 0
-LeaverIsInNoMultiset =
+abbrev pub UnassignedIsInNoMultiset : Type 0
+UnassignedIsInNoMultiset =
     (o : Opening) (counts : List ℕ) (u n : ℕ) → Testable o counts n → roles (o .rows) u ≡ 0 → 1 ≤ getD counts u 0 → testOf o counts n .letter ≡ letterN

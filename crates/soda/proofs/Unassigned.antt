@@ -12,7 +12,7 @@ use Rattle.soda.specs.Terms.{Op, either, both, together, apart, Term, ev
 use Rattle.soda.specs.Roles.{UA, assigned, meets, meetsOp}
 use Rattle.soda.specs.Multisets.{Multiset, singleton, SatM, r1, r2, r3, r4, r5, r6, r7, r8, r9, r10, r11}
 use Rattle.soda.specs.Tables.{join, table}
-use Rattle.soda.specs.Laws.{NoRoleMeetsNothing, NotTwice, WhoSatisfiesHoldsRole, NoRoleNotesNothing, UnmetIsImpossible}
+use Rattle.soda.specs.Laws.{UnassignedMeetsNothing, NotTwice, WhoSatisfiesHoldsRole, UnassignedNotesNothing, UnmetIsImpossible}
 use Rattle.soda.proofs.Bools.{not-so, so-eq}
 use Rattle.soda.proofs.Bits.{bit-of-zero}
 use Rattle.soda.proofs.Roles.{some-role}
@@ -27,16 +27,16 @@ neither both = refl
 neither together = refl
 neither apart = refl
 
-pub no-role-meets-nothing : NoRoleMeetsNothing
-no-role-meets-nothing everyone u = refl
-no-role-meets-nothing (role r) u = bit-of-zero r
-no-role-meets-nothing (set m) u = and-false (bit u m)
-no-role-meets-nothing (¬ᵗ φ) u = refl
-no-role-meets-nothing (φ ⁺) u = refl
-no-role-meets-nothing (bin op φ ψ) u = ap₂ (meetsOp op) (no-role-meets-nothing φ u) (no-role-meets-nothing ψ u) ∙ neither op
+pub unassigned-meets-nothing : UnassignedMeetsNothing
+unassigned-meets-nothing everyone u = refl
+unassigned-meets-nothing (role r) u = bit-of-zero r
+unassigned-meets-nothing (set m) u = and-false (bit u m)
+unassigned-meets-nothing (¬ᵗ φ) u = refl
+unassigned-meets-nothing (φ ⁺) u = refl
+unassigned-meets-nothing (bin op φ ψ) u = ap₂ (meetsOp op) (unassigned-meets-nothing φ u) (unassigned-meets-nothing ψ u) ∙ neither op
 
 pub not-twice : NotTwice
-not-twice φ u h = go (eqb h 0) (meets φ u h) (λ z. ap (meets φ u) (so-eq h 0 z) ∙ no-role-meets-nothing φ u)
+not-twice φ u h = go (eqb h 0) (meets φ u h) (λ z. ap (meets φ u) (so-eq h 0 z) ∙ unassigned-meets-nothing φ u)
   where
     go : (none m : Bool) → (So none → m ≡ false) → (not none && not (not none && not m)) ≡ m
     go true m k = sym (k refl)
@@ -72,9 +72,9 @@ module _ (ua : UA) where
 pub who-satisfies-holds-role : WhoSatisfiesHoldsRole
 who-satisfies-holds-role ua U φ s u k = by-rule ua s u k
 
-pub no-role-notes-nothing : NoRoleNotesNothing
-no-role-notes-nothing φ u =
-    ap (λ (f : Term → Bool). number (map f (subterms φ))) (fun-ext (λ ψ. ap (λ b. unit ψ && b) (no-role-meets-nothing ψ u) ∙ and-false (unit ψ)))
+pub unassigned-notes-nothing : UnassignedNotesNothing
+unassigned-notes-nothing φ u =
+    ap (λ (f : Term → Bool). number (map f (subterms φ))) (fun-ext (λ ψ. ap (λ b. unit ψ && b) (unassigned-meets-nothing ψ u) ∙ and-false (unit ψ)))
     ∙ go (subterms φ)
   where
     go : (l : List Term) → number (map (λ ψ. false) l) ≡ 0

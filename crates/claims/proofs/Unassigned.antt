@@ -15,12 +15,12 @@ use Rattle.soda.specs.Traces.{business, Trace, upd, execution, noted}
 use Rattle.soda.specs.declared.Action.{Action}
 use Rattle.soda.proofs.Bools.{so-lt, lt-or-le}
 use Rattle.soda.proofs.Bits.{bit-of-zero}
-use Rattle.soda.proofs.Leavers.{no-role-notes-nothing, unmet-is-impossible, who-satisfies-holds-role}
+use Rattle.soda.proofs.Unassigned.{unassigned-notes-nothing, unmet-is-impossible, who-satisfies-holds-role}
 use Rattle.policy.specs.Codes.{FULL, NOT-POSSIBLE}
 use Rattle.policy.specs.Refusals.{Refusals, _gives_, code}
 use Rattle.policy.proofs.Refusals.{clear, clear-behind}
 use Rattle.units.specs.Units.{metOf}
-use Rattle.units.proofs.Units.{no-role-meets-none}
+use Rattle.units.proofs.Units.{unassigned-meets-none}
 use Rattle.instance.specs.Configurations.{held}
 use Rattle.instance.specs.Instances.{policyOf, takenOf, term, notedFor}
 use Rattle.monitor.specs.declared.Monitor.{Monitor}
@@ -31,7 +31,7 @@ use Rattle.monitor.specs.Events.{eventIn, entry, eventRefusals, eventCode}
 use Rattle.monitor.specs.Enabled.{actionWord, enabledMask}
 use Rattle.monitor.proofs.Enabling.{read-action, bit-is-action, no-other-bit}
 use Rattle.claims.specs.Accuracy.{Run, history, traceOf, hasClosed, businessEvents}
-use Rattle.claims.specs.Leavers.{LeaverGetsNine, leaverRefusals, LeaverIsTurnedAway, LeaverMayNotAct, LeaverIsInNoMultiset}
+use Rattle.claims.specs.Unassigned.{UnassignedGetsNine, unassignedRefusals, UnassignedIsTurnedAway, UnassignedMayNotAct, UnassignedIsInNoMultiset}
 use Rattle.claims.proofs.Follows.{noted-append}
 use Rattle.claims.proofs.Answers.{openAnswer}
 use Rattle.claims.proofs.Accuracy.{open-answer}
@@ -52,10 +52,10 @@ module _ (r : Run) (u a : ℕ) where
   not-possible : roles (upd (r .start .rows) t) u ≡ 0 → possible φ 0 (noted φ (r .start .rows) (t ++ (business u a ∷ []))) ≡ false
   not-possible e =
       ap (possible φ 0) (noted-append φ t (business u a ∷ []) (r .start .rows))
-      ∙ nothing-possible φ (noted φ (r .start .rows) t) (note φ (execution (upd (r .start .rows) t) u)) (ap (metBits φ u) e ∙ no-role-notes-nothing φ u)
+      ∙ nothing-possible φ (noted φ (r .start .rows) t) (note φ (execution (upd (r .start .rows) t) u)) (ap (metBits φ u) e ∙ unassigned-notes-nothing φ u)
 
-pub leaver-gets-nine : LeaverGetsNine
-leaver-gets-nine r w u a n long q e still room =
+pub unassigned-gets-nine : UnassignedGetsNine
+unassigned-gets-nine r w u a n long q e still room =
     let l = history r in
     open-answer r w n long (not-true (hasClosed l) still) ∙ ap (openAnswer (r .start) l) q
     ∙ rw (lt-leb 12 (businessEvents l) (so-lt (businessEvents l) 12 room), not-possible r u a e)
@@ -66,35 +66,35 @@ module _ (m : Monitor) (u a n : ℕ) where
   abbrev behind : Bool → Refusals
   behind p = entry (m .instance) (Acts u a) ++ ((leb 12 (m .instance .taken) gives FULL) ∷ (not p gives NOT-POSSIBLE) ∷ [])
 
-  answered : held (m .configuration) u ≡ 0 → code (eventRefusals m (Acts u a) n) ≡ code (leaverRefusals m u a n)
+  answered : held (m .configuration) u ≡ 0 → code (eventRefusals m (Acts u a) n) ≡ code (unassignedRefusals m u a n)
   unfolding eventRefusals
   answered e = ap (λ p. code (admission m n ++ behind p)) (nothing-possible (term (m .instance)) (takenOf (m .instance)) (notedFor (m .configuration) (m .instance) u)
-      (ap (metOf (policyOf (m .instance)) u) e ∙ no-role-meets-none (policyOf (m .instance)) u))
+      (ap (metOf (policyOf (m .instance)) u) e ∙ unassigned-meets-none (policyOf (m .instance)) u))
 
   -- the last one of the list applies
-  refused : code (leaverRefusals m u a n) ≢ 0
+  refused : code (unassignedRefusals m u a n) ≢ 0
   unfolding admission
   refused z =
-      let (closed, (malformed, (full, (last, none)))) = clear-behind (admission m n) (behind false) (clear (leaverRefusals m u a n) refl z) in
+      let (closed, (malformed, (full, (last, none)))) = clear-behind (admission m n) (behind false) (clear (unassignedRefusals m u a n) refl z) in
       true≢false last
 
-pub leaver-is-turned-away : LeaverIsTurnedAway
-leaver-is-turned-away m w u a n r e = (is, λ z. refused m u a n (sym is ∙ z))
+pub unassigned-is-turned-away : UnassignedIsTurnedAway
+unassigned-is-turned-away m w u a n r e = (is, λ z. refused m u a n (sym is ∙ z))
   where
-    is : eventCode m w n ≡ code (leaverRefusals m u a n)
+    is : eventCode m w n ≡ code (unassignedRefusals m u a n)
     is = ap (λ (e : Event). code (eventRefusals m e n)) r ∙ answered m u a n e
 
-pub leaver-may-not-act : LeaverMayNotAct
-leaver-may-not-act m u n byte e = by (lt-or-le u (m .configuration .users))
+pub unassigned-may-not-act : UnassignedMayNotAct
+unassigned-may-not-act m u n byte e = by (lt-or-le u (m .configuration .users))
   where
     by : (u < m .configuration .users) ⊎ (m .configuration .users ≤ u) → bit u (enabledMask m n) ≡ false
     by (inl l) =
         let r : eventIn m (actionWord u 0) ≡ Acts u 0 = read-action u 0 byte (omega arith) (m .configuration .users) (m .configuration .roles) ∙ ap (λ b. cond b (Acts u 0) Malformed) (lt-ltb u (m .configuration .users) l) in
-        bit-is-action m n u 0 byte (omega arith) ∙ ne-eqb (eventCode m (actionWord u 0) n) 0 (leaver-is-turned-away m (actionWord u 0) u 0 n r e .1)
+        bit-is-action m n u 0 byte (omega arith) ∙ ne-eqb (eventCode m (actionWord u 0) n) 0 (unassigned-is-turned-away m (actionWord u 0) u 0 n r e .1)
     by (inr l) = no-other-bit m n u l
 
-pub leaver-is-in-no-multiset : LeaverIsInNoMultiset
-leaver-is-in-no-multiset o counts u n t e k = test-is-multiset o counts n .1 .1 (
+pub unassigned-is-in-no-multiset : UnassignedIsInNoMultiset
+unassigned-is-in-no-multiset o counts u n t e k = test-is-multiset o counts n .1 .1 (
   t,
   λ s. let (r, b) = who-satisfies-holds-role (o .rows) _ _ s u k in
       true≢false (sym b ∙ ap (bit r) e ∙ bit-of-zero r),
