@@ -124,6 +124,16 @@ mod tests {
     }
 
     #[test]
+    fn denying_terms_are_policies() {
+        let mut random = Random::new(17);
+        for _ in 0..2000 {
+            let style = terms::Style { users: 3, roles: 3, lean: 80 };
+            let term = terms::denying(&mut random, style, terms::MOST_DENIALS);
+            assert_eq!(read_term(3, 3, &term.words()), Ok(term));
+        }
+    }
+
+    #[test]
     fn multisets_under_a_not_want_a_role_alone() {
         let answer = |input: &calls::MultisetInput, rows: &[u16]| {
             let workspace = &mut calls::marked(input.workspace);

@@ -133,7 +133,7 @@ pub fn rich_case(random: &mut Random) -> Case {
 pub fn leavers_case(random: &mut Random) -> Case {
     let users = random.between(2, 5);
     let roles = random.between(1, 3);
-    let operands = random.between(1, 4);
+    let operands = random.between(1, terms::MOST_DENIALS);
     let policy = terms::denying(random, Style { users, roles, lean: 80 }, operands).words();
     let user_roles = user_roles(random, users, roles);
     let mut events = Vec::new();

@@ -58,9 +58,14 @@ fn opened(users: usize, policy: &Term, rows: &[u16]) -> RawInstance {
 /// A raw instance as a run leaves it, with these rows of roles: a policy that many lists of actions
 /// fit, in some cases with nots, and so many events, most of them actions.
 pub fn grown(random: &mut Random, users: usize, rows: &[u16], events: usize) -> RawInstance {
-    let operands = random.between(1, 9);
-    let make = if random.percent(30) { terms::denying } else { terms::rich };
-    let policy = make(random, Style { users, roles: 4, lean: 80 }, operands);
+    let style = Style { users, roles: 4, lean: 80 };
+    let policy = if random.percent(30) {
+        let operands = random.between(1, terms::MOST_DENIALS);
+        terms::denying(random, style, operands)
+    } else {
+        let operands = random.between(1, 9);
+        terms::rich(random, style, operands)
+    };
     let mut raw = opened(users, &policy, rows);
     for _ in 0..events {
         let user = random.below(users) as u32;

@@ -139,6 +139,10 @@ pub fn rich(random: &mut Random, style: Style, operands: usize) -> Term {
     joined(random, style, operands, leaf)
 }
 
+/// The most operands with which a denying term surely has no more than 31 words: an operand has up to
+/// five.
+pub const MOST_DENIALS: usize = 5;
+
 /// As rich, but with a not in most operands.
 pub fn denying(random: &mut Random, style: Style, operands: usize) -> Term {
     joined(random, style, operands, denial)
