@@ -1,4 +1,5 @@
--- What is proved of the algebra: document 01's table says what Definitions 3, 6 and 7 of document 004 say. Statements only.
+-- What is proved of the algebra: document 01's table says what Definitions 3, 6 and 7 of document 004 say, with rule 4 of Definition 3 as
+-- document 02's E3 replaces it (`Rule4`). Statements only.
 use mathlib.Core.Path.{_≡_}
 use mathlib.Core.Logic.{_↔_}
 use mathlib.Core.Bool.{Bool, true, false, So, not, _&&_, _||_}

@@ -1,4 +1,4 @@
--- Multisets of users (document 004, section 2) and multiset satisfaction (Definition 3).
+-- Multisets of users (document 004, section 2) and multiset satisfaction (Definition 3, with rule 4 as document 02's E3 replaces it).
 use mathlib.Core.Path.{_≡_}
 use mathlib.Core.Bool.{So, not, cond}
 use mathlib.Core.List.{List, [], _∷_}
