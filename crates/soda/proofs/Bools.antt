@@ -73,6 +73,9 @@ eq-so m n e = subst (λ (k : ℕ). So (eqb m k)) e (T-so (eqb m m) (eqb-refl m))
 pub so-eq : (m n : ℕ) → So (eqb m n) → m ≡ n
 so-eq m n e = eqb→eq m n (so-T (eqb m n) e)
 
+pub eqb-swap : (m n : ℕ) → eqb m n ≡ eqb n m
+eqb-swap m n = same-test (eqb m n) (eqb n m) (λ e. eq-so n m (sym (so-eq m n e))) (λ e. eq-so m n (sym (so-eq n m e)))
+
 -- the three cases of two numbers
 pub data Order (m n : ℕ) : Type 0 where
   less : m < n → Order m n

@@ -1,16 +1,16 @@
 -- Nothing follows done in a trace of a process: done is synchronised everywhere, and FIN stops behind it.
-use mathlib.Core.Path.{_≡_, refl, sym, _∙_, subst}
+use mathlib.Core.Path.{_≡_, refl, sym, ap, _∙_, subst}
 use mathlib.Core.Logic.{inl, inr}
 use mathlib.Core.Bool.{Bool, true, false, So, cond}
 use mathlib.Core.List.{List, [], _∷_, _++_}
 use Rattle.soda.specs.Terms.{Op, either, both, together, apart, Term, everyone, role, set, ¬ᵗ_, _⁺, bin, unit}
 use Rattle.soda.specs.Roles.{UA, grant, revoke}
 use Rattle.soda.specs.Traces.{business, addUA, rmUA, Trace}
-use Rattle.soda.specs.Csp.{choice, call, stop, Merge, m-nil, m-both, m-left, m-right, at-stop}
+use Rattle.soda.specs.Csp.{choice, call, Merge, m-nil, m-both, m-left, m-right}
 use Rattle.soda.specs.Processes.{Symbol, event, done, Users, P, fin, once, repeat, sync, compose, process, finished}
 use Rattle.soda.specs.Accuracy.{NothingFollowsDone}
 use Rattle.soda.proofs.Bools.{never}
-use Rattle.soda.proofs.Processes.{Has, call-out, choice-out, prefix-out, some-out, parallel-out, refuses, done-out, taken-out, added-out, removed-out, all-merge}
+use Rattle.soda.proofs.Processes.{Has, stop-out, call-out, choice-out, prefix-out, some-out, parallel-out, refuses, done-out, taken-out, added-out, removed-out, all-merge}
 
 -- done is the last symbol, if it occurs
 abbrev pub proper : List Symbol → Bool
@@ -19,12 +19,9 @@ proper (event s ∷ l) = proper l
 proper (done ∷ []) = true
 proper (done ∷ s ∷ l) = false
 
-stop-out : (l : List Symbol) → Has stop l → So (proper (done ∷ l))
-stop-out [] at-stop = refl
-
 fin-proper : (l : List Symbol) → Has (call fin) l → So (proper l)
 fin-proper [] h = refl
-fin-proper (done ∷ l) h = elim (choice-out (call-out h)) [ inl x ↦ stop-out l (prefix-out x .1) | inr y ↦ absurd (refuses refl y) ]
+fin-proper (done ∷ l) h = elim (choice-out (call-out h)) [ inl x ↦ ap (λ t. proper (done ∷ t)) (stop-out (prefix-out x .1)) | inr y ↦ absurd (refuses refl y) ]
 fin-proper (event s ∷ l) h = elim (choice-out (call-out h)) [ inl x ↦ absurd (refuses refl x) | inr y ↦ fin-proper l (prefix-out y .1) ]
 
 once-proper : (φ : Term) (U : Users) (l : List Symbol) (ua : UA) → Has (call (once φ U ua)) l → So (proper l)

@@ -1,14 +1,14 @@
 -- The definitions run: document 01's four mistakes that tempt, each by a case that the mistake gets wrong, the readings of not that document
--- 02's E3 rules out, and document 004's example of a synchronised interleaving. Document 01's settled examples are claimed of the calls,
--- in the crate `claims`.
+-- 02's E3 rules out, the last action of a permission sheet, and document 004's example of a synchronised interleaving. Document 01's settled
+-- examples are claimed of the calls, in the crate `claims`.
 use mathlib.Core.Path.{refl}
-use mathlib.Core.Bool.{Bool, true, false, So, Bool·beq, _&&_}
+use mathlib.Core.Bool.{Bool, true, false, So, not, Bool·beq, _&&_}
 use mathlib.Core.List.{List, [], _∷_, _++_}
-use Prim.Native.Nat.{ℕ}
+use Prim.Native.Nat.{ℕ, _+_, _^_}
 use Rattle.soda.specs.Bits.{setBit, clearBit}
 use Rattle.soda.specs.Lists.{all}
 use Rattle.soda.specs.Terms.{Term, everyone, role, set, ¬ᵗ_, _⊓ᵗ_, _⊙_, _⊗_, wellFormed}
-use Rattle.soda.specs.Roles.{UA}
+use Rattle.soda.specs.Roles.{UA, authorized}
 use Rattle.soda.specs.Tables.{table, satisfied, possible}
 use Rattle.soda.specs.Traces.{Event, Trace, business, addUA, rmUA, noted, Si, si-nil, si-both, si-left, si-right}
 
@@ -61,6 +61,10 @@ cases =
 pub tempting-mistakes : So (all holds cases)
 unfolding table setBit clearBit
 tempting-mistakes = refl
+
+-- actions are numbered 0 to 63: a sheet gives no other, whatever its row has
+pub last-action : So (authorized ((2 ^ 63 + 2 ^ 64) ∷ []) 1 63 && not (authorized ((2 ^ 63 + 2 ^ 64) ∷ []) 1 64))
+last-action = refl
 
 -- the example under Definition 5: bᵢ is `business i 0`, aᵢ is `addUA i 0`
 abbrev b : ℕ → Event

@@ -4,6 +4,8 @@ pub mod Bits
 pub mod Lists
 pub mod Splits
 pub mod Sorting
+pub mod Results
+pub mod Loops
 -- Terms and words.
 pub mod Terms
 pub mod Words
@@ -27,5 +29,9 @@ pub mod Processes
 pub mod Endings
 pub mod Readings
 pub mod Accuracy
+-- The other two processes.
+pub mod Workflows
+pub mod Secure
 -- Computed tests.
 pub mod Examples
+pub mod Payments

@@ -1,5 +1,6 @@
 -- Laws of the first element that fails a test, of the part of a list from a place on, of a range of numbers, of a list copied into an array, and of the length of a list.
-use mathlib.Core.Path.{_≡_, refl, sym, _∙_, ap}
+use mathlib.Core.Path.{_≡_, refl, sym, _∙_, ap, subst}
+use mathlib.Core.Logic.{inl, inr}
 use mathlib.Core.Bool.{Bool, true, false, So, cond}
 use mathlib.Core.List.{List, [], _∷_, _++_, map}
 use Prim.Native.Nat.{ℕ, zero, suc, _+_, _-_, _≤_, _<_}
@@ -10,9 +11,9 @@ use lib.Dec.{eqb·suc-suc, eqb·zero-suc}
 use borrow.Author.Tests.{eqb-false, ne-eqb}
 use lib.ListN.{length, getD, set, take, drop, replicate, length-drop, length-map}
 use lib.Seq.{drop-cons, ext-getD, take-all, take-suc, take-length, length-take-le, set-at, append-snoc}
-use Rattle.soda.specs.Lists.{all, firstFailing, range, padded}
+use Rattle.soda.specs.Lists.{any, all, firstFailing, range, padded}
 use Rattle.soda.specs.Laws.{FirstIsFirst, NoneFails, FromDrop, FromLength}
-use Rattle.soda.proofs.Bools.{by-test, and-split, and-join}
+use Rattle.soda.proofs.Bools.{never, by-test, and-split, and-join, or-split, or-left, or-right}
 
 -- ── the first element that fails a test ──
 pub failing-most : {A : Type 0} (f : A → Bool) (l : List A) → firstFailing f l ≤ length l
@@ -93,6 +94,20 @@ map-range f d i (suc n) (suc k) h = let e : suc i + k ≡ i + suc k = omega arit
 pub map-below : {A : Type 0} (f : ℕ → A) (d : A) (n k : ℕ) → k < n → getD (map f (range 0 n)) k d ≡ f k
 map-below f d n k h = let e : 0 + k ≡ k = omega arith in map-range f d 0 n k h ∙ ap f e
 
+-- a test that one of them passes
+pub any-range-out : (f : ℕ → Bool) (i n : ℕ) → So (any f (range i n)) → (k : ℕ) × So (f k)
+any-range-out f i zero h = never h
+any-range-out f i (suc n) h = elim (or-split (f i) (any f (range (suc i) n)) h) [ inl x ↦ (i, x) | inr y ↦ any-range-out f (suc i) n y ]
+
+any-range-in : (f : ℕ → Bool) (i n k : ℕ) → k < n → So (f (i + k)) → So (any f (range i n))
+any-range-in f i zero k l h = absurd (omega arith)
+any-range-in f i (suc n) zero l h = let e : i + 0 ≡ i = omega arith in or-left (f i) (any f (range (suc i) n)) (rw e at h)
+any-range-in f i (suc n) (suc k) l h = let e : i + suc k ≡ suc i + k = omega arith in
+    or-right (f i) (any f (range (suc i) n)) (any-range-in f (suc i) n k (omega arith) (rw e at h))
+
+pub any-below : (f : ℕ → Bool) (n k : ℕ) → k < n → So (f k) → So (any f (range 0 n))
+any-below f n k l h = let e : k ≡ 0 + k = omega arith in any-range-in f 0 n k l (subst (λ (j : ℕ). So (f j)) e h)
+
 -- a map over numbers below n depends on what it does with those
 pub map-same : {A : Type 0} (d : A) (n : ℕ) (f g : ℕ → A) → ((k : ℕ) → k < n → f k ≡ g k) → map f (range 0 n) ≡ map g (range 0 n)
 map-same {A = A} d n f g h = ext-getD d (map f (range 0 n)) (map g (range 0 n)) (long f ∙ sym (long g))
@@ -118,6 +133,17 @@ copied-next n xs i within room =
 
 pub copied-all : (n : ℕ) (xs : List ℕ) (i : ℕ) → i ≡ length xs → copied n xs i ≡ padded n xs
 copied-all n xs i e = ap (copied n xs) e ∙ ap (λ (p : List ℕ). p ++ replicate (n - length xs) 0) (take-length xs)
+
+-- zeros behind a list are read as what is not there
+pub zeros : (k r : ℕ) → getD {A = ℕ} (replicate k 0) r 0 ≡ 0
+zeros zero r = refl
+zeros (suc k) zero = refl
+zeros (suc k) (suc r) = zeros k r
+
+pub zeros-behind : (l : List ℕ) (k r : ℕ) → getD (l ++ replicate k 0) r 0 ≡ getD l r 0
+zeros-behind [] k r = zeros k r
+zeros-behind (x ∷ l) k zero = refl
+zeros-behind (x ∷ l) k (suc r) = zeros-behind l k r
 
 -- what is known of an array of structs in a struct, for `search`: its elements are counted under a map
 pub length-mapped : (X Y : Type 0) (f : X → Y) (l : List X) (n : ℕ) → length (map f l) ≡ n → length l ≡ n

@@ -10,8 +10,8 @@ use Rattle.soda.specs.Terms.{Op, either, both, together, apart, Term, ev
 use Rattle.soda.specs.Roles.{UA, roles, grant, revoke, meets}
 use Rattle.soda.specs.Tables.{single, several, acts, join, Execution, metBy, judge}
 use Rattle.soda.specs.Traces.{business, addUA, rmUA, Trace, execution, executed, Si, si-nil, si-both, si-left, si-right}
-use Rattle.soda.specs.Csp.{Process, prefix, choice, some, parallel, call, Merge, m-nil, m-both, m-left, m-right, Accepts, at-stop, at-prefix, by-prefix, by-left, by-right, by-some, by-parallel, by-call}
-use Rattle.soda.specs.Processes.{Symbol, event, done, Users, P, Name, fin, once, repeat, waiting, body, sync, Parts, compose, process, unfinished, finished}
+use Rattle.soda.specs.Csp.{Process, stop, prefix, choice, some, parallel, call, Merge, m-nil, m-both, m-left, m-right, Accepts, at-stop, at-prefix, by-prefix, by-left, by-right, by-some, by-parallel, by-call}
+use Rattle.soda.specs.Processes.{Symbol, event, done, Users, P, Name, fin, once, repeat, isAddUA, isRmUA, administered, waiting, body, sync, Parts, compose, process, unfinished, finished}
 use Rattle.soda.proofs.Bools.{never, and-split, and-join, or-split, or-left, or-right, not-so, so-eq, eq-so}
 use Rattle.soda.proofs.Splits.{all-part, all-parts, split-swap}
 use Rattle.soda.proofs.Tables.{several-all, Judgement, Halves, together-out, together-in, apart-out, apart-in, who, judge-unit, not-row, judge-plus, judge-bin}
@@ -20,6 +20,9 @@ use Rattle.soda.proofs.Traces.{si-split, split-si, is-nil}
 
 -- ── traces of processes taken apart ──
 module _ {Σ N : Type 0} {def : N → Process Σ N} where
+  pub stop-out : {t : List Σ} → Accepts def stop t → t ≡ []
+  stop-out at-stop = refl
+
   pub call-out : {n : N} {t : List Σ} → Accepts def (call n) t → Accepts def (def n) t
   call-out (by-call h) = h
 
@@ -59,7 +62,7 @@ ending-finished [] = refl
 ending-finished (s ∷ t) = ap (λ l. event s ∷ l) (ending-finished t)
 
 -- synchronised on everything: the traces are one
-merge-all : {Σ : Type 0} (t : List Σ) → Merge (λ e. true) t t t
+pub merge-all : {Σ : Type 0} (t : List Σ) → Merge (λ e. true) t t t
 merge-all [] = m-nil
 merge-all (e ∷ t) = m-both refl (merge-all t)
 
@@ -145,22 +148,29 @@ once-in φ U e (rmUA u r ∷ t) ua w h = by-call (by-right (by-right (by-prefix 
 abbrev pub Told : Bool → Users → List Execution → Type 0
 Told b U s = So b × So (within U s)
 
--- a trace of what rules 1 and 2 share, by its first symbol
+-- a trace of what rules 1 and 2 and RBAC share, by its first symbol: an admin event that p does not wait for, or another
+module _ (ua : UA) (n : UA → Name) {E : Symbol → Bool} {p : Symbol → P} {t : List Symbol} where
+  pub grant-out : {u r : ℕ} → E (event (addUA u r)) ≡ false → Has (administered ua n (prefix E p)) (event (addUA u r) ∷ t) → Has (call (n (grant ua u r))) t
+  grant-out f h = elim (choice-out h) [ inl x ↦ absurd (refuses f x) | inr y ↦ elim (choice-out y) [ inl z ↦ prefix-out z .1 | inr z ↦ absurd (refuses refl z) ] ]
+
+  pub revoke-out : {u r : ℕ} → E (event (rmUA u r)) ≡ false → Has (administered ua n (prefix E p)) (event (rmUA u r) ∷ t) → Has (call (n (revoke ua u r))) t
+  revoke-out f h = elim (choice-out h) [ inl x ↦ absurd (refuses f x) | inr y ↦ elim (choice-out y) [ inl z ↦ absurd (refuses refl z) | inr z ↦ prefix-out z .1 ] ]
+
+  pub other-out : {e : Symbol} → isAddUA e ≡ false → isRmUA e ≡ false → Has (administered ua n (prefix E p)) (e ∷ t) → So (E e) × Has (p e) t
+  other-out f g h = elim (choice-out h) [ inl x ↦ prefix-out x | inr y ↦ elim (choice-out y) [ inl z ↦ absurd (refuses f z) | inr z ↦ absurd (refuses g z) ] ]
+
 module _ (φ : Term) (U : Users) (ua : UA) (n : UA → Name) (p : P) {t : List Symbol} where
   pub done-out : Has (waiting φ U ua n p) (done ∷ t) → ⊥
-  done-out h = elim (choice-out h) [ inl x ↦ refuses refl x | inr y ↦ elim (choice-out y) [ inl z ↦ refuses refl z | inr z ↦ refuses refl z ] ]
+  done-out h = false≢true (other-out ua n refl refl h .0)
 
   pub taken-out : {u a : ℕ} → Has (waiting φ U ua n p) (event (business u a) ∷ t) → So (U u) × So (meets φ u (roles ua u)) × Has p t
-  taken-out {u} {a} h = elim (choice-out h) [
-    | inl x ↦ let (k, f) = prefix-out x in let (v, m) = and-split (U u) (meets φ u (roles ua u)) k in (v, m, f)
-    | inr y ↦ elim (choice-out y) [ inl z ↦ absurd (refuses refl z) | inr z ↦ absurd (refuses refl z) ]
-  ]
+  taken-out {u} {a} h = let (k, f) = other-out ua n refl refl h in let (v, m) = and-split (U u) (meets φ u (roles ua u)) k in (v, m, f)
 
   pub added-out : {u r : ℕ} → Has (waiting φ U ua n p) (event (addUA u r) ∷ t) → Has (call (n (grant ua u r))) t
-  added-out h = elim (choice-out h) [ inl x ↦ absurd (refuses refl x) | inr y ↦ elim (choice-out y) [ inl z ↦ prefix-out z .1 | inr z ↦ absurd (refuses refl z) ] ]
+  added-out h = grant-out ua n refl h
 
   pub removed-out : {u r : ℕ} → Has (waiting φ U ua n p) (event (rmUA u r) ∷ t) → Has (call (n (revoke ua u r))) t
-  removed-out h = elim (choice-out h) [ inl x ↦ absurd (refuses refl x) | inr y ↦ elim (choice-out y) [ inl z ↦ absurd (refuses refl z) | inr z ↦ prefix-out z .1 ] ]
+  removed-out h = revoke-out ua n refl h
 
 once-out : (φ : Term) (U : Users) (e : Bool) (t : Trace) (ua : UA) → Has (call (once φ U ua)) (ending e t) → Told (single e (metBy φ) (executed ua t)) U (executed ua t)
 unfolding ending

@@ -3,8 +3,9 @@ use mathlib.Core.Path.{_≡_, refl, sym, _∙_, ap}
 use mathlib.Core.Logic.{_⊎_, inl, inr}
 use mathlib.Core.Bool.{Bool, false, So, _&&_, _||_, and-assoc, or-assoc, or-false}
 use mathlib.Core.List.{List, [], _∷_, _++_, map}
-use Prim.Native.Nat.{ℕ, zero, suc}
-use lib.ListN.{replicate}
+use Prim.Native.Nat.{ℕ, zero, suc, _<_}
+use native.Mathlib.Omega.{arith}
+use lib.ListN.{length, getD, replicate}
 use Rattle.soda.specs.Lists.{any, all, toLeft, toRight, splits, Split, nil, left, right}
 use Rattle.soda.proofs.Bools.{and-split, and-join, or-split, or-left, or-right}
 
@@ -24,6 +25,12 @@ module _ {A B : Type 0} (g : A → B) (f : B → Bool) where
   pub all-map : (l : List A) → all f (map g l) ≡ all (λ x. f (g x)) l
   all-map [] = refl
   all-map (x ∷ l) = ap (λ (b : Bool). f (g x) && b) (all-map l)
+
+-- an element that passes
+pub any-at : {A : Type 0} (f : A → Bool) (l : List A) (k : ℕ) (d : A) → k < length l → So (f (getD l k d)) → So (any f l)
+any-at f [] k d b h = absurd (omega arith)
+any-at f (x ∷ l) zero d b h = or-left (f x) (any f l) h
+any-at f (x ∷ l) (suc k) d b h = or-right (f x) (any f l) (any-at f l k d (omega arith) h)
 
 pub all-replicate : {A : Type 0} (f : A → Bool) (n : ℕ) (a : A) → So (f a) → So (all f (replicate n a))
 all-replicate f zero a h = refl

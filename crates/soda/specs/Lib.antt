@@ -8,6 +8,7 @@ pub mod Roles
 pub mod Tables
 pub mod Multisets
 pub mod Traces
+pub mod Workflows
 pub mod Csp
 pub mod Processes
 -- Equal forms.
@@ -16,4 +17,5 @@ pub mod Normal
 -- What is proved of them.
 pub mod Laws
 pub mod Accuracy
+pub mod Secure
 pub mod EqualForms

@@ -1,4 +1,4 @@
-// The separation-of-duty algebra: definitions in specs/, theorems in proofs/, and the action that definitions and product share.
+// The separation-of-duty algebra: definitions in specs/, theorems in proofs/, and the types that definitions and product share.
 ghost use mathlib.Core.Path.{_≡_};
 
 // A taken action (document 01): its user, and bit i of met for whether the user met the unit term at word i.
@@ -18,4 +18,18 @@ impl Action {
             met,
         }
     }
+}
+
+// A transition of a workflow (document 02: an arrow): in its state, its action leads to the next state.
+#[repr(C)]
+pub struct Transition {
+    pub state: u8,
+    pub action: u8,
+    pub next: u8,
+}
+
+// Where an action leads from a state: to a state, or nowhere.
+pub enum Successor {
+    To(u8),
+    Nowhere,
 }
