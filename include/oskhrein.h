@@ -21,13 +21,13 @@
 
 /* The version of this header. oskhrein_version gives that of the library: it is to be OSKHREIN_VERSION. */
 #define OSKHREIN_VERSION_MAJOR 0
-#define OSKHREIN_VERSION_MINOR 4
+#define OSKHREIN_VERSION_MINOR 5
 #define OSKHREIN_VERSION_PATCH 0
 #define OSKHREIN_VERSION (OSKHREIN_VERSION_MAJOR * 65536u + OSKHREIN_VERSION_MINOR * 256u + OSKHREIN_VERSION_PATCH)
 
 /* The number of the layout of struct oskhrein_monitor, another one whenever the struct is another. Keep it beside a stored monitor, and
  * reload only what was stored under the same number. oskhrein_layout gives that of the library. */
-#define OSKHREIN_LAYOUT 2
+#define OSKHREIN_LAYOUT 3
 
 #ifdef __cplusplus
 extern "C" {
@@ -47,12 +47,17 @@ enum {
     OSKHREIN_COUNTS = 5, /* users or roles not 1 to 16 */
     OSKHREIN_ROWS = 6,   /* role rows not one a user, or a role not declared */
 
+    /* Author of permissions and workflow. */
+    OSKHREIN_WORKFLOW = 19, /* one given without the other, or one not as oskhrein_open has it */
+
     /* Clerk who sends events or multisets. */
-    OSKHREIN_MALFORMED = 7,      /* event word out of layout, or user or role not declared; a count above 0 for a user not declared */
-    OSKHREIN_FULL = 8,           /* twelve actions taken already; a multiset of more than twelve */
-    OSKHREIN_NOT_POSSIBLE = 9,   /* the actions with this one are not possible */
-    OSKHREIN_CLOSED = 10,        /* the monitor is closed */
-    OSKHREIN_NOT_SATISFIED = 11, /* close, but the taken actions do not satisfy */
+    OSKHREIN_MALFORMED = 7,       /* event word out of layout, or user or role not declared; a count above 0 for a user not declared */
+    OSKHREIN_FULL = 8,            /* twelve actions taken already; a multiset of more than twelve */
+    OSKHREIN_NOT_POSSIBLE = 9,    /* the actions with this one are not possible */
+    OSKHREIN_CLOSED = 10,         /* the monitor is closed */
+    OSKHREIN_NOT_SATISFIED = 11,  /* close, but the taken actions do not satisfy, or the workflow is in no final state */
+    OSKHREIN_NOT_AUTHORIZED = 16, /* no role that the user holds gives the action */
+    OSKHREIN_NO_TRANSITION = 17,  /* the workflow has no transition for the action in its present state */
 
     /* Program that calls. */
     OSKHREIN_WORKSPACE = 12, /* workspace below 8,192 words */
@@ -109,14 +114,18 @@ enum {
     OSKHREIN_MAX_USERS = 16,
     OSKHREIN_MAX_ROLES = 16,
     OSKHREIN_MAX_ACTIONS = 12,
+    OSKHREIN_MAX_STATES = 16,
+    OSKHREIN_MAX_TRANSITIONS = 64,
     OSKHREIN_WORKSPACE_WORDS = 8192
 };
 
-/* A configuration: the roles that each user holds (bit r for role r), and the counts. Rows past the users are zero. */
+/* A configuration: the actions that each role gives (bit a for action a), the roles that each user holds (bit r for role r), and the
+ * counts. Rows past the roles and past the users are zero. */
 struct oskhrein_configuration {
+    uint64_t permissions[OSKHREIN_MAX_ROLES];
     uint16_t user_roles[OSKHREIN_MAX_USERS];
-    uint16_t users;
-    uint16_t roles;
+    uint32_t users;
+    uint32_t roles;
 };
 
 /* A taken action. Bit i of met: its user met the unit term that begins at policy word i when the action was taken. */
@@ -125,14 +134,33 @@ struct oskhrein_action {
     uint32_t met;
 };
 
-/* An instance: the policy, the taken actions in order of arrival, the policy's word count, the number of the actions, and the closed
- * mark: 0 is open, every other value closed. Words and places past their numbers are zero. */
+/* A transition of a workflow: the action leads from the state to the next one. */
+struct oskhrein_transition {
+    uint8_t state;
+    uint8_t action;
+    uint8_t next;
+};
+
+/* A workflow: its transitions, its final states (bit s for state s), and how many states and transitions there are. Transitions past
+ * their number are zero. One that is not given is all zero. */
+struct oskhrein_workflow {
+    struct oskhrein_transition transitions[OSKHREIN_MAX_TRANSITIONS];
+    uint16_t final_states;
+    uint8_t states;
+    uint8_t count;
+};
+
+/* An instance: the policy, the taken actions in order of arrival, the workflow, the policy's word count, the number of the actions, the
+ * closed mark: 0 is open, every other value closed, and the workflow's present state. Words and places past their numbers are zero.
+ * Without a workflow its state and the configuration's permissions are zero too. */
 struct oskhrein_instance {
     uint32_t policy[OSKHREIN_MAX_WORDS];
     struct oskhrein_action actions[OSKHREIN_MAX_ACTIONS];
+    struct oskhrein_workflow workflow;
     uint16_t words;
     uint8_t taken;
     uint8_t closed;
+    uint32_t state;
 };
 
 /* A monitor. It has no padding: each of its bytes is a field's, so it may be compared, hashed and stored as bytes. */
@@ -150,16 +178,18 @@ struct oskhrein_monitor {
 
 /* The struct is as the library has it, and its fields are all of it. A compiler of C99 or C++98 cannot say so. */
 #define OSKHREIN_FIELDS \
-    (OSKHREIN_MAX_USERS * sizeof(uint16_t) + 2 * sizeof(uint16_t) + OSKHREIN_MAX_WORDS * sizeof(uint32_t) + \
-     OSKHREIN_MAX_ACTIONS * 2 * sizeof(uint32_t) + sizeof(uint16_t) + 2 * sizeof(uint8_t))
+    (OSKHREIN_MAX_ROLES * sizeof(uint64_t) + OSKHREIN_MAX_USERS * sizeof(uint16_t) + 2 * sizeof(uint32_t) + \
+     OSKHREIN_MAX_WORDS * sizeof(uint32_t) + OSKHREIN_MAX_ACTIONS * 2 * sizeof(uint32_t) + \
+     OSKHREIN_MAX_TRANSITIONS * 3 * sizeof(uint8_t) + sizeof(uint16_t) + 2 * sizeof(uint8_t) + sizeof(uint16_t) + \
+     2 * sizeof(uint8_t) + sizeof(uint32_t))
 #if defined __cplusplus && __cplusplus >= 201103L
-static_assert(sizeof(struct oskhrein_monitor) == 260, "a monitor has 260 bytes");
+static_assert(sizeof(struct oskhrein_monitor) == 592, "a monitor has 592 bytes");
 static_assert(sizeof(struct oskhrein_monitor) == OSKHREIN_FIELDS, "a monitor has no padding");
-static_assert(alignof(struct oskhrein_monitor) == 4, "a monitor stands at a multiple of 4");
+static_assert(alignof(struct oskhrein_monitor) == 8, "a monitor stands at a multiple of 8");
 #elif defined __STDC_VERSION__ && __STDC_VERSION__ >= 201112L
-_Static_assert(sizeof(struct oskhrein_monitor) == 260, "a monitor has 260 bytes");
+_Static_assert(sizeof(struct oskhrein_monitor) == 592, "a monitor has 592 bytes");
 _Static_assert(sizeof(struct oskhrein_monitor) == OSKHREIN_FIELDS, "a monitor has no padding");
-_Static_assert(_Alignof(struct oskhrein_monitor) == 4, "a monitor stands at a multiple of 4");
+_Static_assert(_Alignof(struct oskhrein_monitor) == 8, "a monitor stands at a multiple of 8");
 #endif
 #undef OSKHREIN_FIELDS
 
@@ -171,13 +201,24 @@ _Static_assert(_Alignof(struct oskhrein_monitor) == 4, "a monitor stands at a mu
  */
 
 /*
- * Opens a monitor under a policy of n_words words, with one row of roles for each user.
+ * Opens a monitor under a policy of n_words words, with one row of roles for each user, and with permissions and a workflow if they are
+ * given.
  *
  * The policy is one term in prefix order: a word, then its sides. The kind is in bits 24 to 31 of a word, the operand in bits 0 to 15,
  * and bits 16 to 23 are zero: see the kinds above and oskhrein_policy_word.
  *
+ * Permissions and workflow are given both or neither. For neither pass length 0 for both, with any pointers that are not null: every
+ * action is then permitted, in any order, and a close asks for no final state.
+ *   permissions  eight bytes a role, low first: bit a is set if the role gives action a, one of 0 to 63
+ *   workflow     a byte that counts the states, 1 to 16; one that counts the transitions, 0 to 64; two bytes, low first, with bit s set
+ *                if state s is final; then for each transition three bytes: its state, its action, its next state. The workflow starts
+ *                in state 0.
+ *
  * Answers OSKHREIN_ACCEPTED, or the first that applies of OSKHREIN_COUNTS, OSKHREIN_WORD_COUNT, OSKHREIN_WORD, OSKHREIN_TERM,
- * OSKHREIN_UNIT, OSKHREIN_ROWS.
+ * OSKHREIN_UNIT, OSKHREIN_ROWS and
+ *   OSKHREIN_WORKFLOW    one of permissions and workflow has length 0 and the other does not; either has another length than it must; a
+ *                        count is out of range; a transition or a final state names a state not declared; a transition's action is
+ *                        above 63; two transitions have the same state and action
  *
  * Leaves in *place the place of a policy's fault, counted in words from 0:
  *   OSKHREIN_WORD_COUNT  0
@@ -186,15 +227,16 @@ _Static_assert(_Alignof(struct oskhrein_monitor) == 4, "a monitor stands at a mu
  *   OSKHREIN_UNIT        the first such not or plus
  * Any other answer leaves *place as it was.
  *
- * Leaves in *monitor what was opened: the policy, the counts and the rows, zeros behind them, no action, and not closed. A refusal
- * leaves the blank monitor there, all zero. words and rows are only read.
+ * Leaves in *monitor what was opened: the policy, the counts, the rows, permissions and workflow, zeros behind them, no action, in
+ * state 0, and not closed. A refusal leaves the blank monitor there, all zero. words, rows, permissions and workflow are only read.
  */
 uint8_t oskhrein_open(struct oskhrein_monitor *monitor, uint8_t users, uint8_t roles, const uint32_t *words, size_t n_words,
-                      const uint16_t *rows, size_t n_rows, uint8_t *place);
+                      const uint16_t *rows, size_t n_rows, const uint8_t *permissions, size_t n_permissions, const uint8_t *workflow,
+                      size_t n_workflow, uint8_t *place);
 
 /*
  * One event on a monitor. The kind is in bits 24 to 31 of its word, bits 16 to 23 are zero, the user is in bits 8 to 15:
- *   1 action    bits 0 to 7 are the action's number, any value, not judged or kept
+ *   1 action    bits 0 to 7 are the action's number; it is not kept, and without permissions and workflow not judged
  *   2 grant     bits 0 to 7 are a role; one held already is accepted and alters nothing
  *   3 revoke    bits 0 to 7 are a role; one not held is accepted and alters nothing
  *   4 close     all other bits are zero
@@ -202,15 +244,19 @@ uint8_t oskhrein_open(struct oskhrein_monitor *monitor, uint8_t users, uint8_t r
  * Answers OSKHREIN_ACCEPTED, or the first that applies of
  *   OSKHREIN_WORKSPACE      n_workspace below 8,192
  *   OSKHREIN_MONITOR        the monitor's policy, counts or rows would be refused; above twelve actions; an action by a user not
- *                           declared, or with a bit at a word that begins no unit term; an unused place, policy word or row not zero
+ *                           declared, or with a bit at a word that begins no unit term; permissions or workflow would be refused, or
+ *                           the workflow has no such state as the present one; an unused place, policy word, row or transition not
+ *                           zero, and without a workflow anything of it, its state or the permissions
  *   OSKHREIN_CLOSED         whatever the word is
  *   OSKHREIN_MALFORMED
+ *   OSKHREIN_NOT_AUTHORIZED an action only: permissions are given, and no role that the user holds now gives it; none gives one above 63
+ *   OSKHREIN_NO_TRANSITION  an action only: a workflow is given, and has no transition for it in the present state
  *   OSKHREIN_FULL           an action only
  *   OSKHREIN_NOT_POSSIBLE   an action only
- *   OSKHREIN_NOT_SATISFIED  a close only
+ *   OSKHREIN_NOT_SATISFIED  a close only: the taken actions do not satisfy, or a workflow is given and its present state is not final
  *
- * Leaves in *monitor, where it answers 0, the one part that the event alters: an action the next place and their number, a grant or
- * revocation one bit, a close the mark. Any other answer leaves *monitor as it was.
+ * Leaves in *monitor, where it answers 0, what the event alters: an action the next place, their number and the workflow's state, a
+ * grant or revocation one bit, a close the mark. Any other answer leaves *monitor as it was.
  *
  * Leaves the workspace filled for the taken actions with the tried one after an action answered 0 or 9, and for the taken actions
  * after a close answered 0 or 11. After any other event or answer it is as it was.
@@ -221,33 +267,37 @@ uint8_t oskhrein_event(struct oskhrein_monitor *monitor, uint32_t word, uint32_t
  * The status of a monitor.
  *
  * Answers OSKHREIN_WORKSPACE or OSKHREIN_MONITOR, the first that applies, as oskhrein_event does; else OSKHREIN_STATUS_CLOSED if it
- * is closed, else OSKHREIN_STATUS_COMPLETE if the taken actions satisfy the policy, else OSKHREIN_STATUS_OPEN.
+ * is closed, else OSKHREIN_STATUS_COMPLETE if the taken actions satisfy the policy, else OSKHREIN_STATUS_OPEN. The workflow's state plays
+ * no part.
  *
  * Leaves the workspace filled for the taken actions; a refusal leaves it as it was. *monitor is only read.
  */
 uint8_t oskhrein_status(const struct oskhrein_monitor *monitor, uint32_t *workspace, size_t n_workspace);
 
 /*
- * Who may act on a monitor: the users whose action oskhrein_event would answer with OSKHREIN_ACCEPTED now, whatever the action's
- * number.
+ * Who may act on a monitor: the users whose action with this number oskhrein_event would answer with OSKHREIN_ACCEPTED now. Without
+ * permissions and workflow it is the same for every number.
  *
  * Answers OSKHREIN_ACCEPTED, or the first that applies of OSKHREIN_WORKSPACE and OSKHREIN_MONITOR, as oskhrein_event does.
  *
  * Leaves a mask of users in *users, bit u for user u; bits from the number of users on are zero. It is 0 for a closed monitor and
  * for one with twelve actions. A refusal leaves *users as it was. *monitor is only read.
  *
- * Leaves the workspace as oskhrein_event does for an action by the user with the highest number, whether or not that user may act. A
- * closed monitor, one with twelve actions, and a refusal leave it as it was.
+ * Leaves the workspace as oskhrein_event does for the action by the user with the highest number to whom neither
+ * OSKHREIN_NOT_AUTHORIZED nor OSKHREIN_NO_TRANSITION applies, whether or not that user may act. Without such a user, on a closed monitor
+ * or one with twelve actions, and after a refusal it is as it was.
  *
- * A program that keeps the mask asks anew after each event answered 0; an event with any other answer leaves the mask right.
+ * A program that keeps the masks for some actions asks anew after each event answered 0; an event with any other answer leaves them
+ * right.
  */
-uint8_t oskhrein_enabled(const struct oskhrein_monitor *monitor, uint32_t *workspace, size_t n_workspace, uint16_t *users);
+uint8_t oskhrein_enabled(const struct oskhrein_monitor *monitor, uint8_t action, uint32_t *workspace, size_t n_workspace,
+                         uint16_t *users);
 
 /*
  * Whether a multiset of users satisfies a policy: user u occurs counts[u] times. The empty multiset does not.
  *
- * Answers OSKHREIN_YES or OSKHREIN_NO, or the first that applies of OSKHREIN_WORKSPACE, the refusals of oskhrein_open in its order,
- * OSKHREIN_MALFORMED (a count above 0 for a user not declared), OSKHREIN_FULL (more than twelve in all).
+ * Answers OSKHREIN_YES or OSKHREIN_NO, or the first that applies of OSKHREIN_WORKSPACE, the refusals of oskhrein_open up to
+ * OSKHREIN_ROWS in its order, OSKHREIN_MALFORMED (a count above 0 for a user not declared), OSKHREIN_FULL (more than twelve in all).
  *
  * Leaves in *place the place of a policy's fault, as oskhrein_open does. Any other answer leaves it as it was.
  *

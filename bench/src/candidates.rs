@@ -8,8 +8,9 @@ use reference::place::place_of;
 use reference::raw::{RawAction, RawInstance};
 use reference::search::Search;
 
-use crate::cases::{action, Case, Job};
+use crate::cases::{numbered, Case, Job};
 use crate::library::{Library, Stored};
+use crate::tuned::workflow::{Transition, Workflow};
 use crate::tuned::{self, Action, Configuration, Fill, Instance, Monitor};
 
 /// The place where there is none: no policy has so many words.
@@ -87,10 +88,12 @@ fn verdict(yes: bool) -> u8 {
 /// since a short policy would not take so many.
 fn start(case: &Case) -> RawInstance {
     let (users, roles) = (case.users().into(), case.roles().into());
-    let (code, mut raw) = RawInstance::open(users, roles, &case.policy.words, &case.policy.rows);
+    let (words, rows) = (&case.policy.words, &case.policy.rows);
+    let (code, mut raw) = RawInstance::open_secure(users, roles, words, rows, case.given());
     if code != 0 {
         return raw;
     }
+    raw.state = case.order.as_ref().map_or(0, |order| order.state.into());
     let opened = raw.monitor().expect("the case opens");
     for (place, user) in case.taken.iter().map(|user| usize::from(*user)).enumerate() {
         let held = reference::policy::ones(case.policy.rows[user]);
@@ -102,17 +105,32 @@ fn start(case: &Case) -> RawInstance {
 
 /// An instance of the reference program as the hand-tuned program keeps it.
 fn from_raw(raw: &RawInstance) -> Monitor {
-    let (users, roles) = (raw.users as u16, raw.roles as u16);
-    Monitor {
-        configuration: Configuration { user_roles: raw.user_roles, users, roles },
-        instance: Instance {
-            policy: raw.policy,
-            actions: raw.actions.map(|a| Action { user: a.user as u32, met: a.met }),
-            words: raw.length as u16,
-            taken: raw.count as u8,
-            closed: raw.closed,
-        },
-    }
+    let transition = |arrow: reference::secure::Transition| {
+        let [state, action, next] = arrow.bytes();
+        Transition { state, action, next }
+    };
+    let workflow = Workflow {
+        transitions: raw.transitions.map(transition),
+        final_states: raw.final_states,
+        states: raw.states,
+        count: raw.arrows,
+    };
+    let configuration = Configuration {
+        permissions: raw.permissions,
+        user_roles: raw.user_roles,
+        users: raw.users as u32,
+        roles: raw.roles as u32,
+    };
+    let instance = Instance {
+        policy: raw.policy,
+        actions: raw.actions.map(|a| Action { user: a.user as u32, met: a.met }),
+        workflow,
+        words: raw.length as u16,
+        taken: raw.count as u8,
+        closed: raw.closed,
+        state: raw.state as u32,
+    };
+    Monitor { configuration, instance }
 }
 
 /// (a) The proved library; or an earlier build of it.
@@ -148,12 +166,12 @@ impl Candidate for Proved<'_> {
                 library.event(now, *word, workspace)
             }
             Job::Status => library.status(now, workspace),
-            Job::Enabled => library.enabled(now, workspace, named),
+            Job::Enabled(action) => library.enabled(now, *action, workspace, named),
             Job::Multiset(counts) => {
                 calls.satisfies(users, roles, policy, rows, counts, workspace, place)
             }
             Job::NormalForm => calls.normal_form(users, roles, policy, workspace, place),
-            Job::Open => library.open(now, users, roles, policy, rows, place),
+            Job::Open => library.open(now, (users, roles), policy, rows, case.given(), place),
         }
     }
 
@@ -178,6 +196,7 @@ impl Candidate for Proved<'_> {
 /// last.
 pub struct Tried<'a> {
     case: &'a Case,
+    action: u8,
     library: &'a Library,
     start: Stored,
     workspace: Box<Workspace>,
@@ -185,10 +204,10 @@ pub struct Tried<'a> {
 }
 
 impl<'a> Tried<'a> {
-    /// With the input of a case.
-    pub fn new(case: &'a Case, library: &'a Library) -> Tried<'a> {
+    /// With the input of a case, for the action with this number.
+    pub fn new(case: &'a Case, action: u8, library: &'a Library) -> Tried<'a> {
         let start = library.stored(&from_raw(&start(case)));
-        Tried { case, library, start, workspace: Workspace::new(), users: 0 }
+        Tried { case, action, library, start, workspace: Workspace::new(), users: 0 }
     }
 }
 
@@ -197,7 +216,8 @@ impl Candidate for Tried<'_> {
         self.users = 0;
         for user in 0..self.case.users() {
             let mut copy = self.start;
-            let number = self.library.event(&mut copy, action(user), &mut self.workspace.0);
+            let word = numbered(user, self.action);
+            let number = self.library.event(&mut copy, word, &mut self.workspace.0);
             self.users |= u16::from(number == 0) << user;
         }
         0
@@ -256,8 +276,8 @@ impl Candidate for Searched<'_> {
             (Job::Event(word), false) => number(self.now.step(*word).code),
             (Job::Status, true) => self.now.status(workspace).map_or_else(number, letter),
             (Job::Status, false) => self.now.letter().map_or_else(number, letter),
-            (Job::Enabled, fills) => {
-                self.users = tried(&self.now, fills.then_some(workspace));
+            (Job::Enabled(action), fills) => {
+                self.users = tried(&self.now, *action, fills.then_some(workspace));
                 0
             }
             (Job::Multiset(counts), true) => {
@@ -271,7 +291,8 @@ impl Candidate for Searched<'_> {
                 number(reference::policy::normal_form(users, roles, policy, workspace))
             }
             (Job::Open, _) => {
-                let (code, opened) = RawInstance::open(users, roles, policy, rows);
+                let given = self.case.given();
+                let (code, opened) = RawInstance::open_secure(users, roles, policy, rows, given);
                 self.now = opened;
                 let place = place_of(code, users, roles, policy);
                 self.place = place.map_or(NO_PLACE, |place| place as u8);
@@ -298,17 +319,16 @@ impl Candidate for Searched<'_> {
     }
 }
 
-/// Who may act on a well-formed instance by search: each user's action is tried, the last user's with
-/// the workspace, if there is one.
-fn tried(raw: &RawInstance, workspace: Option<&mut [u32]>) -> u16 {
-    let last = raw.users - 1;
-    let code = |user: usize| { *raw }.step(action(user as u8)).code;
-    let mask: u16 = (0..last).map(|user| u16::from(code(user) == 0) << user).sum();
-    let code = match workspace {
-        Some(workspace) => { *raw }.event(action(last as u8), workspace),
-        None => code(last),
-    };
-    mask | u16::from(code == 0) << last
+/// Who may execute an action on a well-formed instance by search: each user's is tried, that of the last
+/// user who is let through with the workspace, if there is one.
+fn tried(raw: &RawInstance, action: u8, workspace: Option<&mut [u32]>) -> u16 {
+    let word = |user: usize| numbered(user as u8, action);
+    let codes: Vec<u32> = (0..raw.users).map(|user| { *raw }.step(word(user)).code).collect();
+    let last = codes.iter().rposition(|code| ![16, 17].contains(code));
+    if let (Some(last), Some(workspace)) = (last, workspace) {
+        { *raw }.event(word(last), workspace);
+    }
+    codes.iter().enumerate().map(|(user, code)| u16::from(*code == 0) << user).sum()
 }
 
 /// (c) and (d): the hand-tuned program, with either way to fill the workspace.
@@ -342,7 +362,7 @@ impl Candidate for Tuned<'_> {
                 byte(now.event(*word, workspace, *fill), |()| 0)
             }
             Job::Status => byte(now.status(workspace, *fill), |status| status.letter() as u8),
-            Job::Enabled => byte(now.enabled(workspace), |users| {
+            Job::Enabled(action) => byte(now.enabled(*action, workspace), |users| {
                 *named = users;
                 0
             }),
@@ -355,7 +375,10 @@ impl Candidate for Tuned<'_> {
                 let answer = tuned::normal::normal_form(users, roles, policy, workspace);
                 policy_byte(answer, place, |()| 0)
             }
-            Job::Open => policy_byte(now.open(users, roles, policy, rows), place, |()| 0),
+            Job::Open => {
+                let opened = now.open((users, roles), policy, rows, case.given());
+                policy_byte(opened, place, |()| 0)
+            }
         }
     }
 
@@ -378,11 +401,14 @@ impl Candidate for Tuned<'_> {
 
 #[cfg(test)]
 mod tests {
+    use reference::generate::calls::{enabled_edges, enabled_input, EnabledInput};
     use reference::generate::calls::{
         event_edges, event_input, multiset_input, policy_input, EventInput, MultisetInput,
         PolicyInput,
     };
+    use reference::generate::secure::faulty;
     use reference::generate::Random;
+    use reference::secure::Given;
 
     use super::*;
 
@@ -412,30 +438,18 @@ mod tests {
         }
     }
 
-    /// Who may act as the reference finds it: 12, 15, nobody on a closed or full instance, else each
-    /// user tried.
-    fn enabled(raw: &RawInstance, workspace: &mut [u32]) -> Result<u16, u8> {
-        let refused = |code: &u32| [12, 15].contains(code);
-        let code = { *raw }.event(action(0), &mut workspace.to_vec());
-        match Some(code).filter(refused) {
-            Some(code) => Err(code as u8),
-            None if raw.closed != 0 || raw.count == 12 => Ok(0),
-            None => Ok(tried(raw, Some(workspace))),
-        }
-    }
-
     #[test]
     fn tuned_code_tells_who_may_act_as_the_reference_does() {
         let mut random = Random::new(24);
-        let edges = event_edges(&mut random).into_iter().map(|(_, input)| input);
-        let mut inputs: Vec<EventInput> = edges.collect();
-        inputs.extend((0..1200).map(|_| event_input(&mut random)));
+        let edges = enabled_edges(&mut random).into_iter().map(|(_, input)| input);
+        let mut inputs: Vec<EnabledInput> = edges.collect();
+        inputs.extend((0..1200).map(|_| enabled_input(&mut random)));
         let mut seen = [0; 3];
-        for EventInput { instance: raw, workspace, .. } in inputs {
+        for EnabledInput { instance: raw, action, workspace } in inputs {
             let mut expected = vec![7; workspace];
             let mut lent = expected.clone();
-            let answer = enabled(&raw, &mut expected);
-            let got = from_raw(&raw).enabled(&mut lent).map_err(Refusal::number);
+            let answer = raw.enabled(action, &mut expected).map_err(|code| code as u8);
+            let got = from_raw(&raw).enabled(action, &mut lent).map_err(Refusal::number);
             assert_eq!((got, lent), (answer, expected), "{raw:x?}");
             seen[answer.map_or(0, |users| if users == 0 { 1 } else { 2 })] += 1;
         }
@@ -447,8 +461,8 @@ mod tests {
         for case in crate::cases::enabled() {
             let raw = start(&case);
             let mut workspace = vec![7; tuned::WORDS];
-            let got = from_raw(&raw).enabled(&mut workspace);
-            assert_eq!(got, Ok(tried(&raw, None)), "{:?}", case.name());
+            let got = from_raw(&raw).enabled(0, &mut workspace);
+            assert_eq!(got, Ok(tried(&raw, 0, None)), "{:?}", case.name());
         }
     }
 
@@ -484,9 +498,11 @@ mod tests {
             let got = tuned::normal::normal_form(given.0, given.1, &words, &mut out);
             assert_eq!((byte(got, |()| 0), &out), (code, &expected), "{words:x?}");
             let rows: Vec<u16> = (0..users).map(|_| random.word() as u16 & 7).collect();
-            let (code, raw) = RawInstance::open(users, roles, &words, &rows);
+            let order = if random.percent(50) { faulty(&mut random, 3) } else { Given::default() };
+            let order = (&order.permissions[..], &order.workflow[..]);
+            let (code, raw) = RawInstance::open_secure(users, roles, &words, &rows, order);
             let mut monitor = Monitor::default();
-            let opened = monitor.open(given.0, given.1, &words, &rows);
+            let opened = monitor.open(given, &words, &rows, order);
             assert_eq!((byte(opened, |()| 0), monitor), (code as u8, from_raw(&raw)), "{words:x?}");
             let place = place_of(code, users, roles, &words);
             assert_eq!(opened.err().and_then(Refusal::place), place, "{words:x?}");

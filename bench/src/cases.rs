@@ -31,8 +31,8 @@ pub enum Job {
     Event(u32),
     /// The status.
     Status,
-    /// Who may act.
-    Enabled,
+    /// Who may execute the action with this number.
+    Enabled(u8),
     /// Whether the multiset with these counts satisfies the policy.
     Multiset([u8; 16]),
     /// The normal form of the policy.
@@ -52,6 +52,17 @@ pub struct Policy {
     pub rows: Vec<u16>,
 }
 
+/// Permissions and a workflow in bytes, and the state that the workflow is in.
+#[derive(Clone)]
+pub struct Order {
+    /// Eight bytes a role.
+    pub permissions: Vec<u8>,
+    /// The workflow.
+    pub workflow: Vec<u8>,
+    /// The present state.
+    pub state: u8,
+}
+
 /// One row of a table.
 #[derive(Clone)]
 pub struct Case {
@@ -67,6 +78,8 @@ pub struct Case {
     pub taken: Vec<u8>,
     /// What is asked.
     pub job: Job,
+    /// Permissions and workflow, if they are given.
+    pub order: Option<Order>,
 }
 
 /// A balanced tree over operands. Every fifth operator is an either.
@@ -155,13 +168,13 @@ impl Case {
             }
             "event: grant" => Job::Event(Event::Grant { user: 0, role: ROLES - 1 }.word()),
             "status" => Job::Status,
-            "enabled" => Job::Enabled,
+            "enabled" => Job::Enabled(0),
             "multiset" => Job::Multiset(counts),
             "normal form" => Job::NormalForm,
             _ => Job::Open,
         };
         let (what, acting) = (what.to_string(), acting.min(actions));
-        Case { what, policy, actions, acting, taken: users, job }
+        Case { what, policy, actions, acting, taken: users, job, order: None }
     }
 
     /// Who may act after so many actions, by so many users in turn.
@@ -186,6 +199,16 @@ impl Case {
         self.acting + noted.len()
     }
 
+    /// Permissions and workflow as an opening is given them.
+    pub fn given(&self) -> (&[u8], &[u8]) {
+        self.order.as_ref().map_or((&[], &[]), |order| (&order.permissions, &order.workflow))
+    }
+
+    /// The same case without permissions and workflow.
+    pub fn bare(&self) -> Case {
+        Case { order: None, ..self.clone() }
+    }
+
     /// How many users are declared.
     pub fn users(&self) -> u8 {
         USERS
@@ -207,7 +230,82 @@ impl Case {
 
 /// The word of an action.
 pub fn action(user: u8) -> u32 {
-    Event::Action { user, number: 0 }.word()
+    numbered(user, 0)
+}
+
+/// The word of an action with this number.
+pub fn numbered(user: u8, number: u8) -> u32 {
+    Event::Action { user, number }.word()
+}
+
+/// The action that the last transition of a workflow has in its last state, one that no transition has
+/// there, and one that no role gives.
+const DUE: u8 = 3;
+const NOT_DUE: u8 = 4;
+const NOT_GIVEN: u8 = 5;
+
+/// A workflow of 64 transitions, four in each of 16 states, in its last state, under permissions by
+/// which these roles give all of its actions. The transition for the action that is due comes last.
+fn order(giving: u16) -> Order {
+    let transitions = (0..64u8).flat_map(|place| [place / 4, place % 4, (place / 4 + 1) % 16]);
+    let row = |role: u8| if giving >> role & 1 == 1 { 1u64 << NOT_DUE | 0b1111 } else { 0 };
+    Order {
+        permissions: (0..ROLES).flat_map(|role| row(role).to_le_bytes()).collect(),
+        workflow: [16, 64, 0, 0x80].into_iter().chain(transitions).collect(),
+        state: 15,
+    }
+}
+
+/// The user of an event's word.
+fn user_of(word: u32) -> u8 {
+    (word >> 8) as u8
+}
+
+impl Case {
+    /// The same case under such an order, with this action.
+    fn ordered(self, what: &str, giving: u16, number: u8) -> Case {
+        let job = match self.job {
+            Job::Event(word) => Job::Event(numbered(user_of(word), number)),
+            Job::Enabled(_) => Job::Enabled(number),
+            other => other,
+        };
+        Case { what: what.to_string(), job, order: Some(order(giving)), ..self }
+    }
+}
+
+/// How many actions are judged where none, four, eight and eleven are taken.
+const JUDGED: [usize; 4] = [1, 5, 9, 12];
+
+/// All roles, and the one that three users hold under policies made to measure.
+const ALL_ROLES: u16 = 0xff;
+const FEW: u16 = 1 << 7;
+
+/// The rows of the table of permissions and workflows.
+pub fn ordered() -> Vec<Case> {
+    let mut cases = Vec::new();
+    for policy in [licensee(), made(APART, 10), made(APART, 31)] {
+        for actions in JUDGED {
+            let case = Case::new("event: action", policy.clone(), actions, ACTING);
+            cases.push(case.ordered("event: action", ALL_ROLES, DUE));
+        }
+    }
+    for words in [3, 31] {
+        cases.push(
+            Case::new("opening", made(APART, words), 0, 0).ordered("opening", ALL_ROLES, DUE),
+        );
+    }
+    for actions in [1, 12] {
+        let case = Case::new("event: action", made(APART, 31), actions, ACTING);
+        cases.push(case.clone().ordered("event: refused 16", ALL_ROLES, NOT_GIVEN));
+        cases.push(case.ordered("event: refused 17", ALL_ROLES, NOT_DUE));
+    }
+    for taken in TAKEN {
+        let case = Case::enabled(made(APART, 31), taken, ACTING);
+        cases.push(case.clone().ordered("enabled: few are permitted", FEW, DUE));
+        cases.push(case.clone().ordered("enabled: all but one are permitted", ALL_ROLES, DUE));
+        cases.push(case.ordered("enabled: nobody is permitted", ALL_ROLES, NOT_GIVEN));
+    }
+    cases
 }
 
 /// How many users act, unless a case says otherwise.
@@ -341,7 +439,7 @@ pub fn refused() -> Vec<Case> {
 
 /// The rows of all tables.
 pub fn all() -> Vec<Case> {
-    [calls(), enabled(), refused()].concat()
+    [calls(), enabled(), refused(), ordered()].concat()
 }
 
 /// The rows of the table of calls; in each family the cases with more actions come later.

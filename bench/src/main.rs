@@ -6,14 +6,14 @@
 //! - (d) one table a term.
 //!
 //! Who may act has a table of its own, where one event and a trial for each user stand beside it, and
-//! so have refused policies.
+//! so have refused policies, and permissions and workflows, where the same without them stands beside.
 //!
 //! Before a case is timed, all of them must agree on the answer, the monitor and the place of a
 //! policy's fault, and those that fill the workspace on every word of it. Times are for reading;
 //! nothing passes or fails by them.
 //!
 //! `bench enabled` prints the table of who may act alone, `bench refused` that of refused policies,
-//! `bench rows` lists the rows of all tables, `bench time ROW..` times some of them without (b) and
+//! `bench workflow` that of permissions and workflows, `bench rows` lists the rows of all tables, `bench time ROW..` times some of them without (b) and
 //! (d), and `bench repeat ROW CANDIDATE RUNS` does one of them so often, for a program that counts
 //! instructions.
 
@@ -26,6 +26,7 @@ mod refused;
 mod report;
 mod timing;
 mod tuned;
+mod workflow;
 
 use std::process::ExitCode;
 
@@ -38,6 +39,7 @@ use report::Row;
 const USAGE: &str = "usage: bench
        bench enabled
        bench refused
+       bench workflow
        bench rows
        bench time ROW..
        bench repeat ROW CANDIDATE RUNS";
@@ -62,8 +64,11 @@ impl Builds {
             Box::new(Proved::new(case, &self.linked)),
             Box::new(Tuned::new(case, tuned::rows::fill)),
         ];
-        let asked = matches!(case.job, Job::Enabled);
-        if let Some(earlier) = self.earlier.as_ref().filter(|own| !asked || own.tells_enabled()) {
+        let asked = matches!(case.job, Job::Enabled(_));
+        let has = |own: &&Library| {
+            (!asked || own.tells_enabled()) && (case.order.is_none() || own.has_workflows())
+        };
+        if let Some(earlier) = self.earlier.as_ref().filter(has) {
             all.push(Box::new(Proved::new(case, earlier)));
         }
         all
@@ -72,7 +77,7 @@ impl Builds {
     /// The simple way to do a case.
     fn simple<'a>(&'a self, case: &'a Case) -> Box<dyn Candidate + 'a> {
         match case.job {
-            Job::Enabled => Box::new(Tried::new(case, &self.linked)),
+            Job::Enabled(action) => Box::new(Tried::new(case, action, &self.linked)),
             _ => Box::new(Tuned::new(case, tuned::by_term::fill)),
         }
     }
@@ -120,6 +125,7 @@ fn print(builds: &Builds) {
     growth::print(builds);
     enabled::print(builds);
     refused::print(builds);
+    workflow::print(builds);
 }
 
 /// Prints one table alone.
@@ -169,6 +175,7 @@ fn run(arguments: &[&str]) -> Result<(), String> {
         [] => print(&Builds::new()?),
         ["enabled"] => print_alone(&Builds::new()?, enabled::print),
         ["refused"] => print_alone(&Builds::new()?, refused::print),
+        ["workflow"] => print_alone(&Builds::new()?, workflow::print),
         ["rows"] => {
             for (row, case) in cases::all().iter().enumerate() {
                 println!("{row} | {}", case.name().join(" | "));

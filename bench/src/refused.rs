@@ -42,7 +42,8 @@ impl<'a> ByNumbers<'a> {
     /// The number of an opening under some words of the policy.
     fn number(&mut self, words: &[u32]) -> u8 {
         let (users, roles) = (self.case.users(), self.case.roles());
-        self.library.open(&mut self.part, users, roles, words, &self.case.policy.rows, &mut 0)
+        let (counts, rows) = ((users, roles), &self.case.policy.rows);
+        self.library.open(&mut self.part, counts, words, rows, (&[], &[]), &mut 0)
     }
 
     /// The first beginning with one of two numbers: its length and its number.
@@ -76,7 +77,8 @@ impl Candidate for ByNumbers<'_> {
         let Case { policy, .. } = self.case;
         let (users, roles) = (self.case.users(), self.case.roles());
         let (words, rows) = (&policy.words, &policy.rows);
-        let number = self.library.open(&mut self.now, users, roles, words, rows, &mut 0);
+        let counts = (users, roles);
+        let number = self.library.open(&mut self.now, counts, words, rows, (&[], &[]), &mut 0);
         self.place = self.found(number).map_or(NO_PLACE, |place| place as u8);
         number
     }

@@ -8,9 +8,11 @@ pub mod by_term;
 pub mod normal;
 pub mod policy;
 pub mod rows;
+pub mod workflow;
 
 use oskhrein::{Refusal, Status};
 use policy::{All, Nobody, One, Shape, Who};
+use workflow::Workflow;
 
 /// The words of a workspace.
 pub const WORDS: usize = 8192;
@@ -27,16 +29,18 @@ pub struct Action {
     pub met: u32,
 }
 
-/// Who is declared, and who holds which roles.
+/// Who is declared, who holds which roles, and which roles give which actions.
 #[derive(Clone, Copy, Debug, Default, PartialEq, Eq)]
 #[repr(C)]
 pub struct Configuration {
+    /// The actions of each role.
+    pub permissions: [u64; 16],
     /// The roles of each user.
     pub user_roles: [u16; 16],
     /// How many users.
-    pub users: u16,
+    pub users: u32,
     /// How many roles.
-    pub roles: u16,
+    pub roles: u32,
 }
 
 /// One run under a policy.
@@ -47,12 +51,16 @@ pub struct Instance {
     pub policy: [u32; 31],
     /// The taken actions.
     pub actions: [Action; 12],
+    /// The workflow.
+    pub workflow: Workflow,
     /// How many words.
     pub words: u16,
     /// How many actions.
     pub taken: u8,
     /// 0 while it is open.
     pub closed: u8,
+    /// The workflow's state.
+    pub state: u32,
 }
 
 /// A monitor.
@@ -91,11 +99,25 @@ fn lent(workspace: &mut [u32]) -> Result<&mut [u32; WORDS], Refusal> {
 }
 
 impl Configuration {
-    /// Whether the rows name only declared roles, and those past the users are zero.
+    /// Whether the rows name only declared roles, and those past the users and past the roles are zero.
     #[inline]
     fn is_well_formed(&self) -> bool {
-        let (rows, past) = self.user_roles.split_at(usize::from(self.users & 31).min(16));
-        rows_fit(self.roles.into(), rows) && past.iter().fold(0, |all, row| all | row) == 0
+        let (rows, past) = self.user_roles.split_at((self.users as usize & 31).min(16));
+        let unused = &self.permissions[(self.roles as usize & 31).min(16)..];
+        rows_fit(self.roles, rows)
+            && past.iter().fold(0, |all, row| all | row) == 0
+            && unused.iter().fold(0, |all, row| all | row) == 0
+    }
+
+    /// Whether a role that the user holds gives the action.
+    #[inline]
+    fn permits(&self, user: u32, action: u8) -> bool {
+        let (mut held, mut given) = (self.user_roles[user as usize & 15], 0);
+        while held != 0 {
+            given |= self.permissions[held.trailing_zeros() as usize & 15];
+            held &= held - 1;
+        }
+        action < 64 && given >> (action & 63) & 1 == 1
     }
 }
 
@@ -110,6 +132,18 @@ impl Instance {
         taken.iter().all(fits)
             && past.iter().fold(0, |all, action| all | action.user | action.met) == 0
             && self.policy[shape.words..].iter().fold(0, |all, word| all | word) == 0
+    }
+
+    /// Whether the workflow is well formed and has the present state; without one the permissions and
+    /// the state are zero.
+    #[inline]
+    fn is_placed(&self, configuration: &Configuration) -> bool {
+        if self.workflow.states != 0 {
+            return self.workflow.is_well_formed() && self.state < self.workflow.states.into();
+        }
+        self.workflow.is_zero()
+            && self.state == 0
+            && configuration.permissions.iter().fold(0, |all, row| all | row) == 0
     }
 
     /// The taken actions.
@@ -148,13 +182,13 @@ impl Instance {
 }
 
 impl Monitor {
-    /// Opens a monitor, or answers 5, 1, 2, 3, 4 or 6 and leaves the blank one.
+    /// Opens a monitor, or answers 5, 1, 2, 3, 4, 6 or 19 and leaves the blank one.
     pub fn open(
         &mut self,
-        users: u8,
-        roles: u8,
+        (users, roles): (u8, u8),
         words: &[u32],
         rows: &[u16],
+        (permissions, workflow): (&[u8], &[u8]),
     ) -> Result<(), Refusal> {
         // SAFETY: a monitor is numbers throughout, each of which may be zero.
         *self = unsafe { std::mem::zeroed() };
@@ -163,6 +197,15 @@ impl Monitor {
             return Err(Refusal::Rows);
         }
         let Monitor { configuration, instance } = self;
+        if !permissions.is_empty() || !workflow.is_empty() {
+            if permissions.len() != 8 * usize::from(roles) {
+                return Err(Refusal::Workflow);
+            }
+            instance.workflow = Workflow::read(workflow).ok_or(Refusal::Workflow)?;
+            let (bytes, _) = permissions.as_chunks::<8>();
+            let rows = configuration.permissions.iter_mut().zip(bytes);
+            rows.for_each(|(row, bytes)| *row = u64::from_le_bytes(*bytes));
+        }
         (configuration.users, configuration.roles) = (users.into(), roles.into());
         configuration.user_roles[..rows.len()].copy_from_slice(rows);
         instance.policy[..words.len()].copy_from_slice(words);
@@ -175,13 +218,26 @@ impl Monitor {
     fn check(&self, who: &mut impl Who) -> Option<Shape> {
         let Monitor { configuration, instance } = self;
         let words = instance.policy.get(..usize::from(instance.words))?;
-        let (users, roles) = (configuration.users.into(), configuration.roles.into());
+        let (users, roles) = (configuration.users, configuration.roles);
         let shape = policy::read(users, roles, words, who).ok()?;
-        let well_formed = configuration.is_well_formed() && instance.is_well_formed(users, &shape);
+        let well_formed = configuration.is_well_formed()
+            && instance.is_well_formed(users, &shape)
+            && instance.is_placed(configuration);
         well_formed.then_some(shape)
     }
 
-    /// One event: 12, 15, 10, 7, then 8, 9 or 11. The policy is read for the user that the word
+    /// The state that an action leads to, or 16 or 17.
+    #[inline]
+    fn next(&self, user: u32, action: u8) -> Result<u32, Refusal> {
+        let Monitor { configuration, instance: Instance { workflow, state, .. } } = self;
+        match () {
+            () if workflow.states == 0 => Ok(0),
+            () if !configuration.permits(user, action) => Err(Refusal::NotAuthorized),
+            () => workflow.next(*state, action).ok_or(Refusal::NoTransition),
+        }
+    }
+
+    /// One event: 12, 15, 10, 7, then 16, 17, 8, 9 or 11. The policy is read for the user that the word
     /// names, whether or not it is an action's.
     pub fn event(&mut self, word: u32, workspace: &mut [u32], fill: Fill) -> Result<(), Refusal> {
         let workspace = lent(workspace)?;
@@ -191,29 +247,34 @@ impl Monitor {
             let shape = self.check(&mut one).ok_or(Refusal::Monitor)?;
             return match () {
                 () if self.instance.closed != 0 => Err(Refusal::Closed),
-                () if zero != 0 || u16::from(user) >= self.configuration.users => {
+                () if zero != 0 || u32::from(user) >= self.configuration.users => {
                     Err(Refusal::Malformed)
                 }
                 () => {
+                    let next = self.next(user.into(), low)?;
                     let action = Action { user: user.into(), met: one.met };
-                    self.instance.act(&shape, action, workspace, fill)
+                    self.instance.act(&shape, action, workspace, fill)?;
+                    self.instance.state = next;
+                    Ok(())
                 }
             };
         }
         let shape = self.check(&mut Nobody).ok_or(Refusal::Monitor)?;
-        let Monitor { configuration: Configuration { user_roles, users, roles }, instance } = self;
+        let Monitor { configuration, instance } = self;
+        let Configuration { user_roles, users, roles, .. } = configuration;
         if instance.closed != 0 {
             return Err(Refusal::Closed);
         }
-        let declared = zero == 0 && u16::from(user) < *users && u16::from(low) < *roles;
+        let declared = zero == 0 && u32::from(user) < *users && u32::from(low) < *roles;
         let row = &mut user_roles[usize::from(user & 15)];
         match kind {
             2 if declared => *row |= 1 << (low & 15),
             3 if declared => *row &= !(1 << (low & 15)),
             4 if word == 4 << 24 => {
                 let satisfied = instance.satisfied(&shape, workspace, fill);
-                instance.closed = satisfied.into();
-                return satisfied.then_some(()).ok_or(Refusal::NotSatisfied);
+                let may_end = satisfied && instance.workflow.may_end(instance.state);
+                instance.closed = may_end.into();
+                return may_end.then_some(()).ok_or(Refusal::NotSatisfied);
             }
             _ => return Err(Refusal::Malformed),
         }
@@ -232,8 +293,8 @@ impl Monitor {
         })
     }
 
-    /// Who may act, bit u for user u, or 12 or 15.
-    pub fn enabled(&self, workspace: &mut [u32]) -> Result<u16, Refusal> {
+    /// Who may execute an action, bit u for user u, or 12 or 15.
+    pub fn enabled(&self, action: u8, workspace: &mut [u32]) -> Result<u16, Refusal> {
         let workspace = lent(workspace)?;
         let Monitor { configuration: Configuration { user_roles, users, .. }, instance } = self;
         let mut all = All::new(user_roles, first_users(*users));
@@ -242,31 +303,49 @@ impl Monitor {
         if instance.closed != 0 || taken.len() == instance.actions.len() {
             return Ok(0);
         }
-        let (trials, count) = trials(*users, taken, &all, &shape);
+        let wanted = self.let_through(action);
+        if wanted == 0 {
+            return Ok(0);
+        }
+        let (trials, count) = trials(wanted, taken, &all, &shape);
         Ok(rows::try_each(&shape, taken, &trials[..count], workspace))
+    }
+
+    /// The users to whom neither 16 nor 17 applies.
+    #[inline]
+    fn let_through(&self, action: u8) -> u32 {
+        let Monitor { configuration, instance: Instance { workflow, state, .. } } = self;
+        let all = first_users(configuration.users);
+        match () {
+            () if workflow.states == 0 => all,
+            () if workflow.next(*state, action).is_none() => 0,
+            () => (0..configuration.users)
+                .filter(|user| configuration.permits(*user, action))
+                .fold(0, |users, user| users | 1 << user),
+        }
     }
 }
 
 /// The first so many users, as a mask.
 #[inline]
-fn first_users(users: u16) -> u32 {
+fn first_users(users: u32) -> u32 {
     (1 << users.min(16)) - 1
 }
 
-/// The actions to try for so many users, and how many they are. One serves all users of a kind: those
-/// who have not acted and for whom the same is noted. The last user's comes last, since the workspace
-/// is to speak of it.
+/// The actions to try for some users, and how many they are. One serves all users of a kind: those who
+/// have not acted and for whom the same is noted. The last user's comes last, since the workspace is
+/// to speak of it.
 #[inline]
-fn trials(users: u16, taken: &[Action], all: &All, shape: &Shape) -> ([Trial; 16], usize) {
+fn trials(wanted: u32, taken: &[Action], all: &All, shape: &Shape) -> ([Trial; 16], usize) {
     let acted = taken.iter().fold(0, |acted, action| acted | 1u32 << (action.user & 15));
-    let others = first_users(users) & !acted;
+    let others = wanted & !acted;
     let trial = |user: u32| {
         let kind = if acted >> user & 1 == 1 { 1 << user } else { all.like(user, shape) & others };
         Trial { action: Action { user, met: all.met(user, shape) }, users: kind as u16 }
     };
-    let last = trial(u32::from(users) - 1);
+    let last = trial(wanted.ilog2());
     let (mut trials, mut count) = ([last; 16], 0);
-    let mut left = first_users(users) & !u32::from(last.users);
+    let mut left = wanted & !u32::from(last.users);
     while left != 0 {
         trials[count] = trial(left.trailing_zeros());
         left &= !u32::from(trials[count].users);

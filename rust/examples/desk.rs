@@ -16,7 +16,7 @@ impl Quote {
         if let Err(refusal) = self.monitor.event(action, workspace) {
             return Ok(refusal.number());
         }
-        self.enabled = self.monitor.enabled(workspace)?;
+        self.enabled = self.monitor.enabled(0, workspace)?;
         Ok(0)
     }
 
@@ -31,7 +31,7 @@ fn main() -> Result<(), Refusal> {
     let roles = [1 << 0, 1 << 0 | 1 << 1]; // user 0 counts; user 1 counts and approves
     let mut workspace = Workspace::new();
     let monitor = Monitor::open(2, 2, policy.words(), &roles)?;
-    let enabled = monitor.enabled(&mut workspace)?;
+    let enabled = monitor.enabled(0, &mut workspace)?;
     let mut quote = Quote { monitor, enabled };
     quote.show();
     println!("user 1 acts: {}", quote.act(1, &mut workspace)?);

@@ -10,7 +10,8 @@ pub enum Event {
     Action {
         /// The user who acts.
         user: u8,
-        /// The action's number, which is neither judged nor kept.
+        /// The action's number, which permissions and workflow judge if they are given. It is not
+        /// kept.
         number: u8,
     },
     /// A user is given a role.

@@ -3,12 +3,14 @@
 //! A [`Monitor`] follows one run under a policy. It takes an action by a user or turns it away, lets
 //! roles be granted and withdrawn, tells who may act next, and is closed once its actions satisfy
 //! the policy; [`satisfies`] asks about a multiset of users instead, and [`normal_form`] writes a
-//! policy in its normal form.
+//! policy in its normal form. A [`SecureWorkflow`] may say besides which role gives which action, and
+//! in which order actions come.
 //! Calls that judge actions are lent a [`Workspace`], and take up to 128 KiB of stack. Nothing is
 //! kept between calls but what the caller holds.
 //!
 //! Document 01 has words of its own for some of these: a monitor is its sheet, a workspace its
-//! work room, a status its standing, a multiset its bag, and users are people.
+//! work room, a status its standing, a multiset its bag, and users are people. Permissions and
+//! workflow are document 02's permission sheet and work plan, a transition its arrow.
 //!
 //! # Policies
 //!
@@ -72,27 +74,34 @@
 
 mod event;
 mod monitor;
+mod permissions;
 #[allow(unsafe_code)]
 pub mod raw;
 mod refusal;
+mod secure;
 mod status;
 mod term;
 mod users;
+mod workflow;
 mod workspace;
 
 pub use event::Event;
 pub use monitor::Monitor;
-pub use raw::{Action, LAYOUT, MAX_ACTIONS, MAX_ROLES, MAX_USERS, MAX_WORDS};
+pub use permissions::Permissions;
+pub use raw::{Action, Transition, ACTION_NUMBERS, LAYOUT, MAX_ACTIONS, MAX_ROLES, MAX_STATES};
+pub use raw::{MAX_TRANSITIONS, MAX_USERS, MAX_WORDS};
 pub use refusal::Refusal;
+pub use secure::{SecureWorkflow, WorkflowFault};
 pub use status::Status;
 pub use term::Term;
 pub use users::{Users, UsersIter};
+pub use workflow::Workflow;
 pub use workspace::Workspace;
 
 use raw::Calls;
 
 /// Whether a multiset of users satisfies a policy: user u occurs `counts[u]` times. The empty
-/// multiset does not.
+/// multiset does not. Permissions and a workflow play no part.
 ///
 /// After a yes or a no the workspace speaks of the multiset's actions, in an order that is not
 /// promised.
@@ -135,8 +144,8 @@ pub fn satisfies(
 /// Writes the normal form of a policy at the start of an output, and gives it back. It has as many
 /// words as the policy; the rest of the output keeps what it had.
 ///
-/// Policies with the same normal form, and the same users and roles, give any list of events the
-/// same answers.
+/// Policies with the same normal form, and the same users, roles, permissions and workflow, give any
+/// list of events the same answers.
 ///
 /// # Errors
 /// The first that applies of [`Counts`](Refusal::Counts), [`WordCount`](Refusal::WordCount),

@@ -21,8 +21,9 @@ use std::ffi::c_void;
 use std::mem::transmute;
 use std::ptr::NonNull;
 
-pub use layout::{Action, Configuration, Instance, Monitor};
-pub use layout::{LAYOUT, MAX_ACTIONS, MAX_ROLES, MAX_USERS, MAX_WORDS};
+pub use layout::{Action, Configuration, Instance, Monitor, Transition, Workflow};
+pub use layout::{ACTION_NUMBERS, LAYOUT, MAX_ACTIONS, MAX_ROLES, MAX_STATES, MAX_TRANSITIONS};
+pub use layout::{MAX_USERS, MAX_WORDS};
 
 /// How many words a workspace has at least.
 pub const WORKSPACE_WORDS: usize = 8192;
@@ -77,6 +78,10 @@ exported! {
         n_words: usize,
         rows: *const u16,
         n_rows: usize,
+        permissions: *const u8,
+        n_permissions: usize,
+        workflow: *const u8,
+        n_workflow: usize,
         place: *mut u8,
     ) -> u8;
     event: oskhrein_event(
@@ -92,6 +97,7 @@ exported! {
     ) -> u8;
     enabled: oskhrein_enabled(
         monitor: *const Monitor,
+        action: u8,
         workspace: *mut u32,
         n_workspace: usize,
         users: *mut u16,
@@ -122,7 +128,9 @@ exported! {
 }
 
 impl Calls {
-    /// Opens a monitor. A refusal leaves the blank one.
+    /// Opens a monitor, with permissions and a workflow where they are not empty. A refusal leaves the
+    /// blank one.
+    #[allow(clippy::too_many_arguments)] // those of the exported function
     pub fn open(
         &self,
         monitor: &mut Monitor,
@@ -130,12 +138,21 @@ impl Calls {
         roles: u8,
         words: &[u32],
         rows: &[u16],
+        permissions: &[u8],
+        workflow: &[u8],
         place: &mut u8,
     ) -> u8 {
         let (words, n_words) = (words.as_ptr(), words.len());
         let (rows, n_rows) = (rows.as_ptr(), rows.len());
+        let (permits, n_permits) = (permissions.as_ptr(), permissions.len());
+        let (flow, n_flow) = (workflow.as_ptr(), workflow.len());
         // SAFETY: 1 to 3 by the parameters' types.
-        unsafe { (self.open)(monitor, users, roles, words, n_words, rows, n_rows, place) }
+        unsafe {
+            (self.open)(
+                monitor, users, roles, words, n_words, rows, n_rows, permits, n_permits, flow,
+                n_flow, place,
+            )
+        }
     }
 
     /// One event.
@@ -152,11 +169,18 @@ impl Calls {
         unsafe { (self.status)(monitor, workspace, n_workspace) }
     }
 
-    /// The users whose action would be accepted, bit u for user u. A refusal leaves them as they were.
-    pub fn enabled(&self, monitor: &Monitor, workspace: &mut [u32], users: &mut u16) -> u8 {
+    /// The users whose action with this number would be accepted, bit u for user u. A refusal leaves
+    /// them as they were.
+    pub fn enabled(
+        &self,
+        monitor: &Monitor,
+        action: u8,
+        workspace: &mut [u32],
+        users: &mut u16,
+    ) -> u8 {
         let (workspace, n_workspace) = (workspace.as_mut_ptr(), workspace.len());
         // SAFETY: 1 to 3 by the parameters' types.
-        unsafe { (self.enabled)(monitor, workspace, n_workspace, users) }
+        unsafe { (self.enabled)(monitor, action, workspace, n_workspace, users) }
     }
 
     /// The multiset test.

@@ -5,8 +5,8 @@ use std::fmt;
 
 use crate::status::Status;
 
-/// Why a call was refused; document 01 numbers the reasons from 1 to 15. Later versions may have
-/// more.
+/// Why a call was refused, by the number that document 01 or 02 gives the reason: 1 to 17, and 19.
+/// Later versions may have more.
 ///
 /// The first four are faults of a policy, and have a [`place`](Self::place) among its words, counted
 /// from 0.
@@ -65,7 +65,8 @@ pub enum Refusal {
     NotPossible,
     /// 10: The monitor is closed.
     Closed,
-    /// 11: A close, but the taken actions do not satisfy the policy.
+    /// 11: A close, but the taken actions do not satisfy the policy, or the workflow is in no final
+    /// state.
     NotSatisfied,
     /// 12: The workspace is shorter than 8,192 words. A [`Workspace`](crate::Workspace) never is.
     Workspace,
@@ -76,6 +77,14 @@ pub enum Refusal {
     /// 15: The monitor is malformed. Only one that was made from bytes can be. Its policy may be at
     /// fault, but no place is given.
     Monitor,
+    /// 16: No role that the user holds now gives the action.
+    NotAuthorized,
+    /// 17: The workflow has no transition for the action from its present state.
+    NoTransition,
+    /// 19: Permissions or workflow are out of form, or one of the two is given without the other. What
+    /// [`SecureWorkflow`](crate::SecureWorkflow) makes is refused only if it is for another number of
+    /// roles.
+    Workflow,
 }
 
 impl Refusal {
@@ -96,6 +105,9 @@ impl Refusal {
         Refusal::Output,
         Refusal::Case,
         Refusal::Monitor,
+        Refusal::NotAuthorized,
+        Refusal::NoTransition,
+        Refusal::Workflow,
     ];
 
     /// The number.
@@ -116,6 +128,9 @@ impl Refusal {
             Refusal::Output => 13,
             Refusal::Case => 14,
             Refusal::Monitor => 15,
+            Refusal::NotAuthorized => 16,
+            Refusal::NoTransition => 17,
+            Refusal::Workflow => 19,
         }
     }
 
@@ -135,7 +150,7 @@ impl Refusal {
     /// The refusal with this number, if there is one. The place is what a call of [`raw`](crate::raw)
     /// left in the byte that it was lent; it plays no part where a number has none.
     pub fn of_number(number: u8, place: u8) -> Option<Refusal> {
-        let own = Refusal::ALL.get(usize::from(number).checked_sub(1)?)?;
+        let own = Refusal::ALL.iter().find(|own| own.number() == number)?;
         Some(own.at(place.into()))
     }
 
@@ -149,7 +164,7 @@ impl Refusal {
         }
     }
 
-    /// What is wrong, as document 01 says it, in this crate's names. Where there is a place, it speaks
+    /// What is wrong, as the papers say it, in this crate's names. Where there is a place, it speaks
     /// of the word there.
     pub const fn sentence(self) -> &'static str {
         match self {
@@ -174,11 +189,18 @@ impl Refusal {
             Refusal::Full => "twelve actions taken already; in a multiset, more than twelve in all",
             Refusal::NotPossible => "the actions with this one are not possible",
             Refusal::Closed => "the monitor is closed",
-            Refusal::NotSatisfied => "close, but not satisfied",
+            Refusal::NotSatisfied => {
+                "close, but not satisfied, or the workflow is in no final state"
+            }
             Refusal::Workspace => "workspace below 8,192 words",
             Refusal::Output => "output shorter than the policy",
             Refusal::Case => "case file malformed",
             Refusal::Monitor => "monitor malformed",
+            Refusal::NotAuthorized => "no role that the user holds gives this action",
+            Refusal::NoTransition => {
+                "the workflow has no transition for this action from its state"
+            }
+            Refusal::Workflow => "permissions or workflow out of form, or one without the other",
         }
     }
 }
@@ -243,19 +265,19 @@ mod tests {
 
     #[test]
     fn each_refusal_has_its_number() {
-        for (before, refusal) in (0..).zip(Refusal::ALL) {
-            assert_eq!(refusal.number(), before + 1);
-            assert_eq!(Refusal::of_number(refusal.number(), 0), Some(*refusal));
+        let numbers: Vec<u8> = Refusal::ALL.iter().map(|refusal| refusal.number()).collect();
+        assert_eq!(numbers, (1..=17).chain([19]).collect::<Vec<u8>>());
+        for number in 0..=u8::MAX {
+            let found = Refusal::of_number(number, 0);
+            assert_eq!(found.map(Refusal::number), numbers.contains(&number).then_some(number));
         }
-        assert_eq!(Refusal::of_number(0, 0), None);
-        assert_eq!(Refusal::of_number(16, 0), None);
     }
 
     #[test]
     fn a_policys_faults_alone_have_a_place() {
         let place = |number| Refusal::of_number(number, 31).and_then(Refusal::place);
         assert_eq!((1..=4).map(place).collect::<Vec<_>>(), [Some(0), Some(31), Some(31), Some(31)]);
-        assert!((5..=15).map(place).all(|place| place.is_none()));
+        assert!((5..=u8::MAX).map(place).all(|place| place.is_none()));
     }
 
     #[test]
@@ -273,8 +295,9 @@ mod tests {
     #[test]
     fn every_byte_is_an_answer_or_stops() {
         for byte in 0..=u8::MAX {
-            let known =
-                |least, letters: &[u8]| (least..=15).contains(&byte) || letters.contains(&byte);
+            let known = |least, letters: &[u8]| {
+                (least..=17).contains(&byte) || byte == 19 || letters.contains(&byte)
+            };
             assert_eq!(catch_unwind(|| accepted(byte)).is_ok(), known(5, &[0]));
             assert_eq!(catch_unwind(|| status(byte)).is_ok(), known(5, b"ocd"));
             assert_eq!(catch_unwind(|| policy_accepted(byte, 7)).is_ok(), known(1, &[0]));

@@ -16,7 +16,7 @@ fn action(user: u8) -> Event {
 
 /// Who may act on a well-formed monitor.
 fn enabled(monitor: &Monitor) -> Users {
-    monitor.enabled(&mut Workspace::new()).expect("it is well formed")
+    monitor.enabled(0, &mut Workspace::new()).expect("it is well formed")
 }
 
 /// The same by an action tried for each user, and the workspace that the last one's leaves.
@@ -97,7 +97,7 @@ fn a_program_that_asks_anew_after_accepted_events_is_never_wrong() {
                     kept = enabled(&monitor);
                 }
                 let (mut own, mut last) = (marked(), marked());
-                assert_eq!(monitor.enabled(&mut own), Ok(kept), "{word:08x}");
+                assert_eq!(monitor.enabled(0, &mut own), Ok(kept), "{word:08x}");
                 assert_eq!(tried(&monitor, &mut last), kept, "{word:08x}");
                 let judged = !monitor.is_closed() && monitor.actions().len() < 12;
                 assert_eq!(own, if judged { last } else { marked() });
@@ -109,9 +109,11 @@ fn a_program_that_asks_anew_after_accepted_events_is_never_wrong() {
 }
 
 #[test]
-fn the_number_of_an_action_plays_no_part() {
+fn without_permissions_the_number_of_an_action_plays_no_part() {
     let monitor = open_l();
     for number in 0..=u8::MAX {
+        let own = monitor.enabled(number, &mut Workspace::new());
+        assert_eq!(own, Ok(enabled(&monitor)));
         let accepted = |user: u8| {
             let action = Event::Action { user, number };
             monitor.clone().event(action, &mut Workspace::new()).is_ok()
@@ -135,11 +137,11 @@ fn nobody_may_act_on_a_full_or_closed_monitor() {
     let mut workspace = marked();
     assert_eq!(enabled(&plus_everyone(11)).bits(), 0b011);
     let full = plus_everyone(12);
-    assert_eq!(full.enabled(&mut workspace), Ok(Users::default()));
+    assert_eq!(full.enabled(0, &mut workspace), Ok(Users::default()));
     assert_eq!(workspace, marked());
     let mut closed = plus_everyone(1);
     closed.event(Event::Close, &mut Workspace::new()).expect("it satisfies");
-    assert_eq!(closed.enabled(&mut workspace), Ok(Users::default()));
+    assert_eq!(closed.enabled(0, &mut workspace), Ok(Users::default()));
     assert_eq!(workspace, marked());
     assert_eq!(closed.status(&mut workspace), Ok(Status::Closed));
 }
@@ -148,7 +150,7 @@ fn nobody_may_act_on_a_full_or_closed_monitor() {
 fn the_workspace_speaks_of_the_last_user() {
     let monitor = plus_everyone(1);
     let mut workspace = marked();
-    assert_eq!(monitor.enabled(&mut workspace).map(Users::bits), Ok(0b011));
+    assert_eq!(monitor.enabled(0, &mut workspace).map(Users::bits), Ok(0b011));
     assert_eq!(workspace.possible(0b01), 0b11, "user 1's, which is taken");
     assert_eq!(workspace.possible(0b10), 0, "user 2's, who may not act");
     assert_eq!(monitor.actions().len(), 1);
@@ -166,24 +168,24 @@ fn sixteen_users_fill_the_mask() {
 fn refusals_leave_the_users_alone() {
     let malformed = Monitor::from_bytes(&[0; Monitor::BYTES]);
     let mut workspace = marked();
-    assert_eq!(malformed.enabled(&mut workspace), Err(Refusal::Monitor));
+    assert_eq!(malformed.enabled(0, &mut workspace), Err(Refusal::Monitor));
     assert_eq!(workspace, marked());
     let mut users = 0xa5a5;
     let mut short = vec![7; Workspace::WORDS - 1];
-    assert_eq!(Calls::LINKED.enabled(malformed.as_raw(), &mut short, &mut users), 12);
-    assert_eq!(Calls::LINKED.enabled(open_l().as_raw(), &mut short, &mut users), 12);
+    assert_eq!(Calls::LINKED.enabled(malformed.as_raw(), 0, &mut short, &mut users), 12);
+    assert_eq!(Calls::LINKED.enabled(open_l().as_raw(), 0, &mut short, &mut users), 12);
     assert_eq!(short, vec![7; Workspace::WORDS - 1]);
     let mut long = vec![7; Workspace::WORDS + 1];
-    assert_eq!(Calls::LINKED.enabled(malformed.as_raw(), &mut long, &mut users), 15);
+    assert_eq!(Calls::LINKED.enabled(malformed.as_raw(), 0, &mut long, &mut users), 15);
     assert_eq!(users, 0xa5a5);
-    assert_eq!(Calls::LINKED.enabled(open_l().as_raw(), &mut long, &mut users), 0);
+    assert_eq!(Calls::LINKED.enabled(open_l().as_raw(), 0, &mut long, &mut users), 0);
     assert_eq!((users, long[Workspace::WORDS]), (0b011, 7));
 }
 
 #[test]
 fn a_small_stack_is_enough() {
     let monitor = plus_everyone(11);
-    let asked = move || monitor.enabled(&mut Workspace::new()).map(Users::bits);
+    let asked = move || monitor.enabled(0, &mut Workspace::new()).map(Users::bits);
     let thread = std::thread::Builder::new().stack_size(128 << 10).spawn(asked);
     assert_eq!(thread.expect("it starts").join().expect("it ends"), Ok(0b011));
 }

@@ -143,6 +143,7 @@ fn no_other_refusal_has_a_place() {
     without_place(Monitor::open(0, 2, &bad, &[]), 5);
     without_place(normal_form(2, 17, &bad, &mut []), 5);
     without_place(Monitor::open(2, 2, &good, &[1]), 6);
+    without_place(Monitor::open_bytes(2, 2, &good, &[1, 2], &[0; 16], &[]), 19);
     without_place(satisfies(2, 2, &good, &[1, 4], &counts, &mut workspace), 6);
     without_place(satisfies(2, 2, &good, &[1, 2], &counts, &mut workspace), 7);
     without_place(satisfies(16, 2, &good, &[1; 16], &counts, &mut workspace), 8);
@@ -162,7 +163,7 @@ fn fifteen_has_no_place_though_a_policy_be_its_cause() {
         let mut monitor = Monitor::from_raw(raw);
         without_place(monitor.event(Event::Close, &mut workspace), 15);
         without_place(monitor.status(&mut workspace), 15);
-        without_place(monitor.enabled(&mut workspace), 15);
+        without_place(monitor.enabled(0, &mut workspace), 15);
     }
 }
 
@@ -174,7 +175,7 @@ fn lent(policy: &[u32], rows: &[u16], workspace: usize, output: usize) -> [(u8, 
     let [opened, tested, normal] = &mut places;
     let (mut monitor, mut space) = (raw::Monitor::BLANK, vec![0; workspace]);
     let numbers = [
-        calls.open(&mut monitor, 2, 2, policy, rows, opened),
+        calls.open(&mut monitor, 2, 2, policy, rows, &[], &[], opened),
         calls.satisfies(2, 2, policy, rows, &[1; 16], &mut space, tested),
         calls.normal_form(2, 2, policy, &mut vec![0; output], normal),
     ];

@@ -71,7 +71,7 @@ fn terms() -> Vec<Unit> {
 /// Who may begin under a term.
 fn begins(term: Term) -> Users {
     let monitor = Monitor::open(8, 2, term.words(), &ROWS).expect("it opens");
-    monitor.enabled(&mut Workspace::new()).expect("it is well formed")
+    monitor.enabled(0, &mut Workspace::new()).expect("it is well formed")
 }
 
 #[test]

@@ -11,7 +11,7 @@ static unsigned act(struct oskhrein_monitor *quote, uint16_t *enabled, uint8_t u
     uint32_t action = oskhrein_event_word(OSKHREIN_EVENT_ACTION, user, 0);
     unsigned code = oskhrein_event(quote, action, workspace, OSKHREIN_WORKSPACE_WORDS);
     if (code == OSKHREIN_ACCEPTED)
-        code = oskhrein_enabled(quote, workspace, OSKHREIN_WORKSPACE_WORDS, enabled);
+        code = oskhrein_enabled(quote, 0, workspace, OSKHREIN_WORKSPACE_WORDS, enabled);
     return code;
 }
 
@@ -32,15 +32,17 @@ int main(void)
         oskhrein_policy_word(OSKHREIN_KIND_ROLE, 1),
     };
     const uint16_t roles[] = {1 << 0, 1 << 0 | 1 << 1}; /* user 0 counts; user 1 counts and approves */
+    const uint8_t none[1] = {0};
     struct oskhrein_monitor quote = OSKHREIN_BLANK;
     uint16_t enabled = 0; /* bit u for user u */
     uint8_t place = 0;
 
     if (oskhrein_version() != OSKHREIN_VERSION)
         return 1; /* the library is not this header's */
-    if (oskhrein_open(&quote, 2, 2, policy, 3, roles, 2, &place) != OSKHREIN_ACCEPTED)
+    /* no permissions and no workflow: two empty parts, whose pointers are not null all the same */
+    if (oskhrein_open(&quote, 2, 2, policy, 3, roles, 2, none, 0, none, 0, &place) != OSKHREIN_ACCEPTED)
         return 1; /* with 1 to 4, place says which word of the policy is at fault */
-    if (oskhrein_enabled(&quote, workspace, OSKHREIN_WORKSPACE_WORDS, &enabled) != OSKHREIN_ACCEPTED)
+    if (oskhrein_enabled(&quote, 0, workspace, OSKHREIN_WORKSPACE_WORDS, &enabled) != OSKHREIN_ACCEPTED)
         return 1;
     show(enabled);
     printf("user 1 acts: %u\n", act(&quote, &enabled, 1));

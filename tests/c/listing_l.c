@@ -21,6 +21,10 @@ static const uint32_t POLICY_F[] = {0x08000000, 0x09000000, 0x02000000, 0x060000
 
 static const uint16_t ROWS_L[] = {2, 1, 0};
 
+/* Neither permissions nor a workflow. */
+static const uint8_t NOTHING[1] = {0};
+#define NEITHER NOTHING, 0, NOTHING, 0
+
 static void fill_workspace(uint32_t value)
 {
     for (size_t i = 0; i <= OSKHREIN_WORKSPACE_WORDS; i++) {
@@ -46,27 +50,37 @@ static int same(const struct oskhrein_monitor *a, const struct oskhrein_monitor 
 
 static uint8_t open_l(struct oskhrein_monitor *monitor)
 {
-    return oskhrein_open(monitor, 3, 3, POLICY_F, WORDS_F, ROWS_L, 3, &place);
+    return oskhrein_open(monitor, 3, 3, POLICY_F, WORDS_F, ROWS_L, 3, NEITHER, &place);
 }
 
 static void version_and_layout(void)
 {
     CHECK(oskhrein_version() == OSKHREIN_VERSION);
     CHECK(oskhrein_layout() == OSKHREIN_LAYOUT);
-    CHECK(sizeof(struct oskhrein_configuration) == 36);
-    CHECK(offsetof(struct oskhrein_configuration, user_roles) == 0);
-    CHECK(offsetof(struct oskhrein_configuration, users) == 32);
-    CHECK(offsetof(struct oskhrein_configuration, roles) == 34);
+    CHECK(sizeof(struct oskhrein_configuration) == 168);
+    CHECK(offsetof(struct oskhrein_configuration, permissions) == 0);
+    CHECK(offsetof(struct oskhrein_configuration, user_roles) == 128);
+    CHECK(offsetof(struct oskhrein_configuration, users) == 160);
+    CHECK(offsetof(struct oskhrein_configuration, roles) == 164);
     CHECK(sizeof(struct oskhrein_action) == 8);
     CHECK(offsetof(struct oskhrein_action, met) == 4);
-    CHECK(sizeof(struct oskhrein_instance) == 224);
+    CHECK(sizeof(struct oskhrein_transition) == 3);
+    CHECK(offsetof(struct oskhrein_transition, action) == 1);
+    CHECK(offsetof(struct oskhrein_transition, next) == 2);
+    CHECK(sizeof(struct oskhrein_workflow) == 196);
+    CHECK(offsetof(struct oskhrein_workflow, final_states) == 192);
+    CHECK(offsetof(struct oskhrein_workflow, states) == 194);
+    CHECK(offsetof(struct oskhrein_workflow, count) == 195);
+    CHECK(sizeof(struct oskhrein_instance) == 424);
     CHECK(offsetof(struct oskhrein_instance, policy) == 0);
     CHECK(offsetof(struct oskhrein_instance, actions) == 124);
-    CHECK(offsetof(struct oskhrein_instance, words) == 220);
-    CHECK(offsetof(struct oskhrein_instance, taken) == 222);
-    CHECK(offsetof(struct oskhrein_instance, closed) == 223);
-    CHECK(sizeof(struct oskhrein_monitor) == 260);
-    CHECK(offsetof(struct oskhrein_monitor, instance) == 36);
+    CHECK(offsetof(struct oskhrein_instance, workflow) == 220);
+    CHECK(offsetof(struct oskhrein_instance, words) == 416);
+    CHECK(offsetof(struct oskhrein_instance, taken) == 418);
+    CHECK(offsetof(struct oskhrein_instance, closed) == 419);
+    CHECK(offsetof(struct oskhrein_instance, state) == 420);
+    CHECK(sizeof(struct oskhrein_monitor) == 592);
+    CHECK(offsetof(struct oskhrein_monitor, instance) == 168);
 }
 
 /* Words as the functions of the header make them. */
@@ -105,16 +119,16 @@ static void opening(void)
     CHECK(open_l(&monitor) == OSKHREIN_ACCEPTED);
     CHECK(same(&monitor, &want));
 
-    CHECK(oskhrein_open(&monitor, 17, 3, POLICY_F, WORDS_F, ROWS_L, 3, &place) == OSKHREIN_COUNTS);
+    CHECK(oskhrein_open(&monitor, 17, 3, POLICY_F, WORDS_F, ROWS_L, 3, NEITHER, &place) == OSKHREIN_COUNTS);
     CHECK(same(&monitor, &blank));
     CHECK(open_l(&monitor) == OSKHREIN_ACCEPTED);
-    CHECK(oskhrein_open(&monitor, 3, 3, POLICY_F, WORDS_F, ROWS_L, 2, &place) == OSKHREIN_ROWS);
+    CHECK(oskhrein_open(&monitor, 3, 3, POLICY_F, WORDS_F, ROWS_L, 2, NEITHER, &place) == OSKHREIN_ROWS);
     CHECK(same(&monitor, &blank));
-    CHECK(oskhrein_open(&monitor, 3, 3, POLICY_F, 0, ROWS_L, 3, &place) == OSKHREIN_WORD_COUNT);
-    CHECK(oskhrein_open(&monitor, 3, 2, POLICY_F, WORDS_F, ROWS_L, 3, &place) == OSKHREIN_WORD);
-    CHECK(oskhrein_open(&monitor, 3, 3, POLICY_F, WORDS_F - 1, ROWS_L, 3, &place) == OSKHREIN_TERM);
+    CHECK(oskhrein_open(&monitor, 3, 3, POLICY_F, 0, ROWS_L, 3, NEITHER, &place) == OSKHREIN_WORD_COUNT);
+    CHECK(oskhrein_open(&monitor, 3, 2, POLICY_F, WORDS_F, ROWS_L, 3, NEITHER, &place) == OSKHREIN_WORD);
+    CHECK(oskhrein_open(&monitor, 3, 3, POLICY_F, WORDS_F - 1, ROWS_L, 3, NEITHER, &place) == OSKHREIN_TERM);
     static const uint32_t plus_over_together[] = {0x05000000, 0x08000000, 0x01000000, 0x01000000};
-    CHECK(oskhrein_open(&monitor, 3, 3, plus_over_together, 4, ROWS_L, 3, &place) == OSKHREIN_UNIT);
+    CHECK(oskhrein_open(&monitor, 3, 3, plus_over_together, 4, ROWS_L, 3, NEITHER, &place) == OSKHREIN_UNIT);
 }
 
 static void listing_l(void)
@@ -207,11 +221,11 @@ static void kept_mask(void)
     uint16_t kept = 0xa5a5;
 
     CHECK(open_l(&monitor) == OSKHREIN_ACCEPTED);
-    CHECK(oskhrein_enabled(&monitor, workspace, OSKHREIN_WORKSPACE_WORDS, &kept) == OSKHREIN_ACCEPTED && kept == 3);
+    CHECK(oskhrein_enabled(&monitor, 0, workspace, OSKHREIN_WORKSPACE_WORDS, &kept) == OSKHREIN_ACCEPTED && kept == 3);
     for (size_t i = 0; i < sizeof events / sizeof *events; i++) {
         uint16_t users = 0xa5a5;
         uint8_t code = oskhrein_event(&monitor, events[i], workspace, OSKHREIN_WORKSPACE_WORDS);
-        CHECK(oskhrein_enabled(&monitor, workspace, OSKHREIN_WORKSPACE_WORDS, &users) == OSKHREIN_ACCEPTED);
+        CHECK(oskhrein_enabled(&monitor, 0, workspace, OSKHREIN_WORKSPACE_WORDS, &users) == OSKHREIN_ACCEPTED);
         if (code == OSKHREIN_ACCEPTED) {
             kept = users;
         }
@@ -235,28 +249,28 @@ static void enabled(void)
     CHECK(oskhrein_event(&monitor, 0x01000201, workspace, OSKHREIN_WORKSPACE_WORDS) == OSKHREIN_NOT_POSSIBLE);
     memcpy(trial, workspace, sizeof trial);
     fill_workspace(GUARD);
-    CHECK(oskhrein_enabled(&monitor, workspace, OSKHREIN_WORKSPACE_WORDS, &users) == OSKHREIN_ACCEPTED);
+    CHECK(oskhrein_enabled(&monitor, 0, workspace, OSKHREIN_WORKSPACE_WORDS, &users) == OSKHREIN_ACCEPTED);
     CHECK(users == 3 && same(&monitor, &before) && memcmp(trial, workspace, sizeof trial) == 0);
 
     users = 0xa5a5;
     fill_workspace(GUARD);
-    CHECK(oskhrein_enabled(&monitor, workspace, OSKHREIN_WORKSPACE_WORDS - 1, &users) == OSKHREIN_WORKSPACE);
+    CHECK(oskhrein_enabled(&monitor, 0, workspace, OSKHREIN_WORKSPACE_WORDS - 1, &users) == OSKHREIN_WORKSPACE);
     monitor.instance.taken = 13;
-    CHECK(oskhrein_enabled(&monitor, workspace, OSKHREIN_WORKSPACE_WORDS - 1, &users) == OSKHREIN_WORKSPACE);
-    CHECK(oskhrein_enabled(&monitor, workspace, OSKHREIN_WORKSPACE_WORDS, &users) == OSKHREIN_MONITOR);
+    CHECK(oskhrein_enabled(&monitor, 0, workspace, OSKHREIN_WORKSPACE_WORDS - 1, &users) == OSKHREIN_WORKSPACE);
+    CHECK(oskhrein_enabled(&monitor, 0, workspace, OSKHREIN_WORKSPACE_WORDS, &users) == OSKHREIN_MONITOR);
     CHECK(users == 0xa5a5 && workspace_is(GUARD));
 
     before.instance.closed = 2;
-    CHECK(oskhrein_enabled(&before, workspace, OSKHREIN_WORKSPACE_WORDS, &users) == OSKHREIN_ACCEPTED);
+    CHECK(oskhrein_enabled(&before, 0, workspace, OSKHREIN_WORKSPACE_WORDS, &users) == OSKHREIN_ACCEPTED);
     check(users == 0 && workspace_is(GUARD), "nobody may act on a closed monitor");
 
-    CHECK(oskhrein_open(&monitor, 2, 1, plus_everyone, 2, rows, 2, &place) == OSKHREIN_ACCEPTED);
+    CHECK(oskhrein_open(&monitor, 2, 1, plus_everyone, 2, rows, 2, NEITHER, &place) == OSKHREIN_ACCEPTED);
     for (int taken = 0; taken < OSKHREIN_MAX_ACTIONS; taken++) {
-        CHECK(oskhrein_enabled(&monitor, workspace, OSKHREIN_WORKSPACE_WORDS, &users) == OSKHREIN_ACCEPTED && users == 1);
+        CHECK(oskhrein_enabled(&monitor, 0, workspace, OSKHREIN_WORKSPACE_WORDS, &users) == OSKHREIN_ACCEPTED && users == 1);
         CHECK(oskhrein_event(&monitor, 0x01000000, workspace, OSKHREIN_WORKSPACE_WORDS) == OSKHREIN_ACCEPTED);
     }
     fill_workspace(GUARD);
-    CHECK(oskhrein_enabled(&monitor, workspace, OSKHREIN_WORKSPACE_WORDS, &users) == OSKHREIN_ACCEPTED);
+    CHECK(oskhrein_enabled(&monitor, 0, workspace, OSKHREIN_WORKSPACE_WORDS, &users) == OSKHREIN_ACCEPTED);
     check(users == 0 && workspace_is(GUARD), "nobody may act on a full monitor");
 }
 
@@ -268,7 +282,7 @@ static uint8_t event(struct oskhrein_monitor *monitor, uint32_t word)
 static uint16_t enabled_users(const struct oskhrein_monitor *monitor)
 {
     uint16_t users = 0xa5a5;
-    CHECK(oskhrein_enabled(monitor, workspace, OSKHREIN_WORKSPACE_WORDS, &users) == OSKHREIN_ACCEPTED);
+    CHECK(oskhrein_enabled(monitor, 0, workspace, OSKHREIN_WORKSPACE_WORDS, &users) == OSKHREIN_ACCEPTED);
     return users;
 }
 
@@ -281,7 +295,7 @@ static void role_then_none(void)
     static const uint8_t want[] = {0, 0, 0, OSKHREIN_NOT_POSSIBLE, OSKHREIN_NOT_SATISFIED};
     struct oskhrein_monitor monitor = OSKHREIN_BLANK;
 
-    CHECK(oskhrein_open(&monitor, 3, 3, policy, 4, rows, 3, &place) == OSKHREIN_ACCEPTED);
+    CHECK(oskhrein_open(&monitor, 3, 3, policy, 4, rows, 3, NEITHER, &place) == OSKHREIN_ACCEPTED);
     for (size_t i = 0; i < sizeof events / sizeof *events; i++) {
         check(event(&monitor, events[i]) == want[i], "P6");
     }
@@ -295,7 +309,7 @@ static void leavers(void)
     static const uint16_t rows[] = {1, 3, 2};
     struct oskhrein_monitor monitor = OSKHREIN_BLANK;
 
-    CHECK(oskhrein_open(&monitor, 3, 2, not_anna, 3, rows, 3, &place) == OSKHREIN_ACCEPTED);
+    CHECK(oskhrein_open(&monitor, 3, 2, not_anna, 3, rows, 3, NEITHER, &place) == OSKHREIN_ACCEPTED);
     CHECK(enabled_users(&monitor) == 6);
     CHECK(event(&monitor, 0x01000100) == OSKHREIN_ACCEPTED);
     CHECK(event(&monitor, 0x03000100) == OSKHREIN_ACCEPTED && enabled_users(&monitor) == 6);

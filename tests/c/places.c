@@ -19,14 +19,20 @@
 
 static const uint16_t ROWS[] = {1, 2};
 static const uint8_t COUNTS[OSKHREIN_MAX_USERS] = {1};
+
+/* Neither permissions nor a workflow; and permissions alone. */
+static const uint8_t BYTES[16] = {0};
+#define NEITHER BYTES, 0, BYTES, 0
+#define ALONE BYTES, 16, BYTES, 0
+
 static uint32_t workspace[OSKHREIN_WORKSPACE_WORDS];
 static uint32_t out[OSKHREIN_MAX_WORDS];
 
-/* The calls that read a policy, with two users and two roles, and nothing else at fault. */
+/* The calls that read a policy, with two users and two roles, and nothing else at fault that is looked for before. */
 static uint8_t opened(const uint32_t *words, size_t n_words, uint8_t *place)
 {
     struct oskhrein_monitor monitor = OSKHREIN_BLANK;
-    return oskhrein_open(&monitor, 2, 2, words, n_words, ROWS, 2, place);
+    return oskhrein_open(&monitor, 2, 2, words, n_words, ROWS, 2, ALONE, place);
 }
 
 static uint8_t tested(const uint32_t *words, size_t n_words, uint8_t *place)
@@ -139,9 +145,10 @@ static void untouched(uint8_t before)
     struct oskhrein_monitor monitor = OSKHREIN_BLANK;
     uint8_t place = before;
 
-    CHECK(oskhrein_open(&monitor, 2, 2, good, 2, ROWS, 2, &place) == OSKHREIN_ACCEPTED && place == before);
-    CHECK(oskhrein_open(&monitor, 0, 2, bad, 3, ROWS, 2, &place) == OSKHREIN_COUNTS && place == before);
-    CHECK(oskhrein_open(&monitor, 2, 2, good, 2, ROWS, 1, &place) == OSKHREIN_ROWS && place == before);
+    CHECK(oskhrein_open(&monitor, 2, 2, good, 2, ROWS, 2, NEITHER, &place) == OSKHREIN_ACCEPTED && place == before);
+    CHECK(oskhrein_open(&monitor, 0, 2, bad, 3, ROWS, 2, NEITHER, &place) == OSKHREIN_COUNTS && place == before);
+    CHECK(oskhrein_open(&monitor, 2, 2, good, 2, ROWS, 1, NEITHER, &place) == OSKHREIN_ROWS && place == before);
+    CHECK(oskhrein_open(&monitor, 2, 2, good, 2, ROWS, 2, ALONE, &place) == OSKHREIN_WORKFLOW && place == before);
 
     CHECK(oskhrein_satisfies(2, 2, good, 2, ROWS, 2, COUNTS, workspace, whole, &place) == OSKHREIN_YES && place == before);
     CHECK(oskhrein_satisfies(2, 2, good, 2, ROWS, 2, nobody, workspace, whole, &place) == OSKHREIN_NO && place == before);

@@ -8,3 +8,5 @@ pub mod Writing
 pub mod Refusing
 pub mod Lines
 pub mod Taken
+-- Cases without permissions and workflow.
+pub mod Parts

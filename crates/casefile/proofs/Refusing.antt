@@ -1,4 +1,4 @@
--- The numbers of events are below 16.
+-- The numbers of events are below 18.
 use mathlib.Core.Path.{refl}
 use mathlib.Core.Bool.{Bool, true, false, So, cond}
 use mathlib.Core.List.{List, [], _∷_}
@@ -24,10 +24,10 @@ code-below n (r ∷ l) z h =
     go true x y = x
     go false x y = y
 
-pub event-below : (m : Monitor) (e : Event) (n : ℕ) → code (eventRefusals m e n) < 16
+pub event-below : (m : Monitor) (e : Event) (n : ℕ) → code (eventRefusals m e n) < 18
 unfolding eventRefusals admission
-event-below m (Acts u a) n = code-below 16 (eventRefusals m (Acts u a) n) (lit< tt) refl
-event-below m (Grants u r) n = code-below 16 (eventRefusals m (Grants u r) n) (lit< tt) refl
-event-below m (Revokes u r) n = code-below 16 (eventRefusals m (Revokes u r) n) (lit< tt) refl
-event-below m Closes n = code-below 16 (eventRefusals m Closes n) (lit< tt) refl
-event-below m Malformed n = code-below 16 (eventRefusals m Malformed n) (lit< tt) refl
+event-below m (Acts u a) n = code-below 18 (eventRefusals m (Acts u a) n) (lit< tt) refl
+event-below m (Grants u r) n = code-below 18 (eventRefusals m (Grants u r) n) (lit< tt) refl
+event-below m (Revokes u r) n = code-below 18 (eventRefusals m (Revokes u r) n) (lit< tt) refl
+event-below m Closes n = code-below 18 (eventRefusals m Closes n) (lit< tt) refl
+event-below m Malformed n = code-below 18 (eventRefusals m Malformed n) (lit< tt) refl

@@ -1,13 +1,15 @@
 // A case: when it is malformed, and what it holds.
 ghost use mathlib.Core.Path.{_≡_};
 ghost use mathlib.Core.Bool.{So};
-ghost use Prim.Native.Nat.{_+_, _*_, _≤_};
+ghost use Prim.Native.Nat.{_+_, _*_, _≤_, _<_};
 ghost use lib.ListN.{length, take};
-ghost use Rattle.casefile.specs.Cases.{partsOk, lengthsOk, caseOk, wides, halves, openingOf};
+ghost use Rattle.casefile.specs.Cases.{hasFive, pairsOk, endOf, isJoined, isLast, partsOk, lengthsOk, caseOk, wides, halves, slice, openingBetween, openingOf};
 ghost use Rattle.monitor.specs.Monitors.{opening};
 use super::numbers::EVENTS;
 use super::numbers::GRANTS;
+use super::numbers::PERMISSIONS;
 use super::numbers::POLICY;
+use super::numbers::WORKFLOW;
 use super::numbers::half_at;
 use super::numbers::length_of;
 use super::numbers::offset_of;
@@ -15,24 +17,70 @@ use super::numbers::wide_at;
 use monitor::Monitor;
 use monitor::Opened;
 
-// Whether the first part begins at 12, each other where the last ended, and the third ends the file.
-fn parts_ok(bytes: &[u8]) -> bool
+// Whether there are five pairs: the first part begins at 20.
+pub(crate) fn has_five(bytes: &[u8]) -> bool
     requires { ⌜ 12 ≤ length (now bytes) ⌝ }
+    ensures { λ r. ⌜ r ≡ hasFive (now (bytes .entry)) ⌝ }
+{
+    offset_of(bytes, POLICY) == 20
+}
+
+// Whether the pairs are three and the first part begins at 12, or five and there is room for them.
+fn pairs_ok(bytes: &[u8]) -> bool
+    requires { ⌜ 12 ≤ length (now bytes) ⌝ }
+    ensures { λ r. ⌜ r ≡ pairsOk (now (bytes .entry)) ⌝ }
+{
+    if has_five(bytes) {
+        return 20 <= bytes.len();
+    }
+    offset_of(bytes, POLICY) == 12
+}
+
+// Where a part ends.
+fn end_of(bytes: &[u8], part: usize) -> usize
+    requires { ⌜ part * 4 + 3 < length (now bytes) ⌝ }
+    ensures { λ r. ⌜ r ≡ endOf (now (bytes .entry)) part ⌝ }
+{
+    offset_of(bytes, part) + length_of(bytes, part)
+}
+
+// Whether the next part begins where this one ended.
+fn is_joined(bytes: &[u8], part: usize) -> bool
+    requires { ⌜ part * 4 + 7 < length (now bytes) ⌝ }
+    ensures { λ r. ⌜ r ≡ isJoined (now (bytes .entry)) part ⌝ }
+{
+    offset_of(bytes, part + 1) == end_of(bytes, part)
+}
+
+// Whether a part ends the file.
+fn is_last(bytes: &[u8], part: usize) -> bool
+    requires { ⌜ part * 4 + 3 < length (now bytes) ⌝ }
+    ensures { λ r. ⌜ r ≡ isLast (now (bytes .entry)) part ⌝ }
+{
+    bytes.len() == end_of(bytes, part)
+}
+
+// Whether each part begins where the last ended, and the last one ends the file.
+fn parts_ok(bytes: &[u8]) -> bool
+    requires { ⌜ (12 ≤ length (now bytes)) × So (pairsOk (now bytes)) ⌝ }
     ensures { λ r. ⌜ r ≡ partsOk (now (bytes .entry)) ⌝ }
 {
-    let policy = offset_of(bytes, POLICY);
-    if policy != 12 {
+    if !is_joined(bytes, POLICY) {
         return false;
     }
-    let grants = offset_of(bytes, GRANTS);
-    if grants != policy + length_of(bytes, POLICY) {
+    if !is_joined(bytes, GRANTS) {
         return false;
     }
-    let events = offset_of(bytes, EVENTS);
-    if events != grants + length_of(bytes, GRANTS) {
+    if !has_five(bytes) {
+        return is_last(bytes, EVENTS);
+    }
+    if !is_joined(bytes, EVENTS) {
         return false;
     }
-    bytes.len() == events + length_of(bytes, EVENTS)
+    if !is_joined(bytes, PERMISSIONS) {
+        return false;
+    }
+    is_last(bytes, WORKFLOW)
 }
 
 // Whether each part has a length that it may have.
@@ -67,6 +115,9 @@ pub(crate) fn case_ok(bytes: &[u8]) -> bool
     if 4096 < bytes.len() {
         return false;
     }
+    if !pairs_ok(bytes) {
+        return false;
+    }
     if !parts_ok(bytes) {
         return false;
     }
@@ -97,10 +148,10 @@ fn fill_rows(bytes: &[u8], k: usize, n: usize, rows: &mut [u16])
     }
 }
 
-// Opens the monitor that the case describes.
-pub(crate) fn open_case(bytes: &[u8]) -> Opened
-    requires { ⌜ So (caseOk (now bytes)) ⌝ }
-    ensures { λ r. ⌜ r ≡ opening (openingOf (now (bytes .entry))) ⌝ }
+// Opens the monitor that a case describes whose permissions and workflow lie between these places.
+fn open_between(bytes: &[u8], permissions: usize, workflow: usize, end: usize) -> Opened
+    requires { ⌜ So (caseOk (now bytes)) × (permissions ≤ workflow) × (workflow ≤ end) × (end ≤ length (now bytes)) ⌝ }
+    ensures { λ r. ⌜ r ≡ opening (openingBetween (now (bytes .entry)) (slice (now (bytes .entry)) permissions workflow) (slice (now (bytes .entry)) workflow end)) ⌝ }
 {
     let count = length_of(bytes, POLICY) / 4;
     let mut words = [0u32; 1024];
@@ -114,5 +165,20 @@ pub(crate) fn open_case(bytes: &[u8]) -> Opened
         bytes[grants + 1],
         &words[..count],
         &rows[..users],
+        &bytes[permissions..workflow],
+        &bytes[workflow..end],
     )
+}
+
+// Opens the monitor that the case describes.
+pub(crate) fn open_case(bytes: &[u8]) -> Opened
+    requires { ⌜ So (caseOk (now bytes)) ⌝ }
+    ensures { λ r. ⌜ r ≡ opening (openingOf (now (bytes .entry))) ⌝ }
+{
+    if !has_five(bytes) {
+        return open_between(bytes, 0, 0, 0);
+    }
+    let permissions = offset_of(bytes, PERMISSIONS);
+    let workflow = offset_of(bytes, WORKFLOW);
+    open_between(bytes, permissions, workflow, bytes.len())
 }

@@ -1,4 +1,4 @@
-// Numbers in a case's bytes, low byte first, and its three pairs of offset and length.
+// Numbers in a case's bytes, low byte first, and its pairs of offset and length.
 ghost use mathlib.Core.Path.{_≡_};
 ghost use Prim.Native.Nat.{_+_, _*_, _<_};
 ghost use lib.ListN.{length};
@@ -26,6 +26,10 @@ pub(crate) const POLICY: usize = 0;
 pub(crate) const GRANTS: usize = 1;
 
 pub(crate) const EVENTS: usize = 2;
+
+pub(crate) const PERMISSIONS: usize = 3;
+
+pub(crate) const WORKFLOW: usize = 4;
 
 // Where a part begins.
 pub(crate) fn offset_of(bytes: &[u8], part: usize) -> usize

@@ -1,17 +1,18 @@
 -- Two monitors with related policies that keep step with the same accepted events give the next event the same number and have the
 -- same status.
 use mathlib.Core.Path.{_≡_, refl, sym, _∙_, ap, ap₂, subst}
-use mathlib.Core.Bool.{Bool, true, false, not, cond}
+use mathlib.Core.Bool.{Bool, true, false, not, _&&_, _||_, cond}
 use mathlib.Core.List.{List, [], _∷_, _++_}
 use Prim.Native.Nat.{ℕ, _+_, _≤_}
 use lib.Dec.{leb, eqb}
 use Rattle.soda.specs.Tables.{Execution, satisfied, possible, judge}
 use Rattle.soda.specs.Traces.{business, Trace, executed, noted}
+use Rattle.soda.specs.Workflows.{isSomewhere}
 use Rattle.soda.specs.Processes.{Symbol}
 use Rattle.soda.specs.Steps.{Steps}
 use Rattle.soda.proofs.Notes.{noted-is-meant}
 use Rattle.soda.proofs.Joins.{steps-keep-judgement}
-use Rattle.policy.specs.Codes.{ACCEPTED, FULL, NOT-POSSIBLE, CLOSED, NOT-SATISFIED}
+use Rattle.policy.specs.Codes.{ACCEPTED, FULL, NOT-POSSIBLE, CLOSED, NOT-SATISFIED, NOT-AUTHORIZED, NO-TRANSITION}
 use Rattle.monitor.specs.declared.Monitor.{Monitor}
 use Rattle.monitor.specs.declared.Event.{Event}
 use Rattle.monitor.specs.declared.Event.the-variants.{Acts, Grants, Revokes, Closes, Malformed}
@@ -20,18 +21,19 @@ use Rattle.monitor.specs.Events.{readEvent, eventCode, eventMonitor}
 use Rattle.monitor.specs.Statuses.{letterD, letterC, letterO, statusCode, statusLetter}
 use Rattle.monitor.specs.Runs.{Lengths, Enough, from, stepOf, run}
 use Rattle.claims.specs.Runs.{symbolOf, kept, lines}
+use Rattle.claims.specs.Ordered.{isOrdered, leadsAfter, mayEnd, isPermitted}
 use Rattle.claims.specs.Accuracy.{traceOf, hasClosed, businessEvents}
 use Rattle.claims.specs.EqualForms.{AnsweredAlike}
 use Rattle.claims.proofs.Follows.{formed-policy, Follows, follows-opened, step}
 use Rattle.claims.proofs.Answers.{openAnswer, answerTo, letterAfter, same-event, answered, status-given, letter-given}
 
--- two openings over the same counts and grants
-module _ (users roles : ℕ) (v w rows : List ℕ) where
+-- two openings over the same counts, grants, permissions and workflow
+module _ (users roles : ℕ) (v w rows permissions workflow : List ℕ) where
   abbrev o : Opening
-  o = given users roles v rows
+  o = given users roles v rows permissions workflow
 
   abbrev o′ : Opening
-  o′ = given users roles w rows
+  o′ = given users roles w rows permissions workflow
 
   module _ (p : openCode o ≡ 0) (q : openCode o′ ≡ 0) (related : Steps (policy o) (policy o′)) where
     -- both columns are the same functions of what the trace's actions mean
@@ -49,10 +51,13 @@ module _ (users roles : ℕ) (v w rows : List ℕ) where
     -- so are the answers
     module _ (l : List Symbol) where
       same-open : (e : Event) → openAnswer o l e ≡ openAnswer o′ l e
-      same-open (Acts u a) = ap (λ b. cond (leb 12 (businessEvents l)) FULL (cond (not b) NOT-POSSIBLE ACCEPTED)) (same-possible (traceOf l ++ (business u a ∷ [])))
+      same-open (Acts u a) =
+          ap (λ b. cond (not (not (isOrdered o) || isPermitted o (traceOf l) u a)) NOT-AUTHORIZED
+          (cond (not (not (isOrdered o) || isSomewhere (leadsAfter o (traceOf l) a))) NO-TRANSITION (cond (leb 12 (businessEvents l)) FULL (cond (not b) NOT-POSSIBLE ACCEPTED))))
+          (same-possible (traceOf l ++ (business u a ∷ [])))
       same-open (Grants u r) = refl
       same-open (Revokes u r) = refl
-      same-open Closes = ap (λ b. cond (not b) NOT-SATISFIED ACCEPTED) (same-satisfied (traceOf l))
+      same-open Closes = ap (λ b. cond (not (b && mayEnd o (traceOf l))) NOT-SATISFIED ACCEPTED) (same-satisfied (traceOf l))
       same-open Malformed = refl
 
       same-answer : (e : Event) → answerTo o l e ≡ answerTo o′ l e

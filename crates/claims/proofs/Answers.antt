@@ -1,14 +1,15 @@
 -- What a monitor that keeps step with its accepted events answers next: by the opening and those events alone.
 use mathlib.Core.Path.{_≡_, refl, sym, _∙_, ap, ap₂}
-use mathlib.Core.Bool.{not, cond}
+use mathlib.Core.Bool.{not, _&&_, _||_, cond}
 use mathlib.Core.List.{List, [], _∷_, _++_}
 use Prim.Native.Nat.{ℕ, _≤_}
 use lib.Dec.{leb}
 use borrow.Author.Tests.{le-ltb}
 use Rattle.soda.specs.Tables.{satisfied, possible}
+use Rattle.soda.specs.Workflows.{isSomewhere}
 use Rattle.soda.specs.Traces.{business, noted}
 use Rattle.soda.specs.Processes.{Symbol}
-use Rattle.policy.specs.Codes.{ACCEPTED, MALFORMED, FULL, NOT-POSSIBLE, CLOSED, NOT-SATISFIED}
+use Rattle.policy.specs.Codes.{ACCEPTED, MALFORMED, FULL, NOT-POSSIBLE, CLOSED, NOT-SATISFIED, NOT-AUTHORIZED, NO-TRANSITION}
 use Rattle.policy.specs.Refusals.{code}
 use Rattle.monitor.specs.declared.Monitor.{Monitor}
 use Rattle.monitor.specs.declared.Event.{Event}
@@ -20,17 +21,20 @@ use Rattle.monitor.specs.Statuses.{letterD, letterC, letterO, statusCode, statu
 use Rattle.monitor.specs.Laws.{Declared}
 use Rattle.monitor.proofs.Reading.{declared}
 use Rattle.monitor.proofs.Order.{well-formed-is-admitted}
+use Rattle.claims.specs.Ordered.{isOrdered, leadsAfter, mayEnd, isPermitted}
 use Rattle.claims.specs.Accuracy.{traceOf, hasClosed, businessEvents}
-use Rattle.claims.proofs.Follows.{Follows, satisfied-taken, possible-tried, same-number}
+use Rattle.claims.proofs.Follows.{Follows, satisfied-taken, possible-tried, same-number, may-is, goes-is, end-is}
 
 -- the number of an event while no close has been accepted
 abbrev pub openAnswer : Opening → List Symbol → Event → ℕ
 openAnswer o l (Acts u a) =
-    cond (leb 12 (businessEvents l)) FULL
-    (cond (not (possible (policy o) 0 (noted (policy o) (o .rows) (traceOf l ++ (business u a ∷ []))))) NOT-POSSIBLE ACCEPTED)
+    cond (not (not (isOrdered o) || isPermitted o (traceOf l) u a)) NOT-AUTHORIZED
+    (cond (not (not (isOrdered o) || isSomewhere (leadsAfter o (traceOf l) a))) NO-TRANSITION
+    (cond (leb 12 (businessEvents l)) FULL
+    (cond (not (possible (policy o) 0 (noted (policy o) (o .rows) (traceOf l ++ (business u a ∷ []))))) NOT-POSSIBLE ACCEPTED)))
 openAnswer o l (Grants u r) = ACCEPTED
 openAnswer o l (Revokes u r) = ACCEPTED
-openAnswer o l Closes = cond (not (satisfied (policy o) 0 (noted (policy o) (o .rows) (traceOf l)))) NOT-SATISFIED ACCEPTED
+openAnswer o l Closes = cond (not (satisfied (policy o) 0 (noted (policy o) (o .rows) (traceOf l)) && mayEnd o (traceOf l))) NOT-SATISFIED ACCEPTED
 openAnswer o l Malformed = MALFORMED
 
 abbrev pub answerTo : Opening → List Symbol → Event → ℕ
@@ -46,10 +50,15 @@ module _ (o : Opening) (z : openCode o ≡ 0) (m : Monitor) (l : List Symbol) (f
   by-kind : (e : Event) → Declared (m .configuration .users) (m .configuration .roles) e
       → cond (isMalformed e) MALFORMED (code (ownRefusals (m .configuration) (m .instance) e)) ≡ openAnswer o l e
   by-kind (Acts u a) d =
-      ap₂ (λ k b. cond (leb 12 k) FULL (cond (not b) NOT-POSSIBLE ACCEPTED)) (sym (same-number o z m l f)) (possible-tried o z m l f u a d)
+      rw (may-is o z m l f u a d, goes-is o z m l f a)
+      (ap₂ (λ k b. steps (cond (leb 12 k) FULL (cond (not b) NOT-POSSIBLE ACCEPTED))) (sym (same-number o z m l f)) (possible-tried o z m l f u a d))
+    where
+      -- 16 and 17 in front
+      steps : ℕ → ℕ
+      steps k = cond (not (not (isOrdered o) || isPermitted o (traceOf l) u a)) NOT-AUTHORIZED (cond (not (not (isOrdered o) || isSomewhere (leadsAfter o (traceOf l) a))) NO-TRANSITION k)
   by-kind (Grants u r) d = refl
   by-kind (Revokes u r) d = refl
-  by-kind Closes d = ap (λ b. cond (not b) NOT-SATISFIED ACCEPTED) (satisfied-taken o z m l f)
+  by-kind Closes d = ap₂ (λ b e. cond (not (b && e)) NOT-SATISFIED ACCEPTED) (satisfied-taken o z m l f) (end-is o z m l f)
   by-kind Malformed d = refl
 
   -- the tests in their order, where 12 and 15 do not apply

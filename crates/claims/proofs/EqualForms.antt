@@ -69,4 +69,4 @@ equal-forms users roles v w e f out out′ l l′ =
     let n = means users roles w f in
     let same : (normal users roles v out ≡ normal users roles w out′) ↔ WordSteps v w =
     subst₂ (λ x y. (x ≡ y) ↔ WordSteps v w) (sym (written users roles v out e m l)) (sym (written users roles w out′ f n l′)) (forms users roles v w m n) in
-    record { form = same; answers = λ s rows p q. answered-alike users roles v w rows p q (related users roles v w m n .0 (same .0 s)) }
+    record { form = same; answers = λ s rows permissions workflow p q. answered-alike users roles v w rows permissions workflow p q (related users roles v w m n .0 (same .0 s)) }

@@ -1,7 +1,7 @@
 -- A monitor keeps step with its accepted events: its rows are what their trace makes of the grants, its taken actions are what the
--- trace's actions note, and they are possible.
+-- trace's actions note, and they are possible; its workflow is where the trace's actions lead, and each was permitted.
 use mathlib.Core.Path.{_≡_, refl, sym, _∙_, ap, ap₂, subst}
-use mathlib.Core.Bool.{Bool, true, false, So, _||_, cond}
+use mathlib.Core.Bool.{Bool, true, false, So, not, _||_, cond}
 use mathlib.Core.List.{List, [], _∷_, _++_, map, map-append, append-nil, append-assoc}
 use mathlib.Core.Option.{some}
 use Prim.Native.Nat.{ℕ, _-_, _≤_, _<_}
@@ -13,12 +13,16 @@ use borrow.Author.Tests.{le-leb, leb-false, not-false, eqb-true}
 use Rattle.soda.specs.Bits.{bit, setBit, clearBit}
 use Rattle.soda.specs.Lists.{padded}
 use Rattle.soda.specs.Terms.{Term, size, wellFormed as wellFormedTerm}
-use Rattle.soda.specs.Roles.{UA, roles, grant, revoke}
+use Rattle.soda.specs.Roles.{UA, roles, grant, revoke, authorized}
+use Rattle.soda.specs.Workflows.{successor, follow, reached, isSomewhere, isFinal, authorizedAll}
+use Rattle.soda.specs.declared.Successor.{Successor}
+use Rattle.soda.specs.declared.Successor.the-variants.{To, Nowhere}
 use Rattle.soda.specs.declared.Action.{Action}
 use Rattle.soda.specs.Tables.{satisfied, possible, note}
 use Rattle.soda.specs.Traces.{business, addUA, rmUA, Trace, upd, after, actedBelow, execution, executed, noted}
 use Rattle.soda.specs.Processes.{Symbol, event, done, unfinished, finished}
-use Rattle.soda.proofs.Bools.{by-test, and-split, and-join, lt-so}
+use Rattle.soda.proofs.Bools.{never, by-test, and-split, and-join, lt-so}
+use Rattle.soda.proofs.Workflows.{authorized-append, reached-append}
 use Rattle.soda.proofs.Terms.{size-pos}
 use Rattle.soda.proofs.Words.{encode-length}
 use Rattle.soda.proofs.Tables.{empty-set}
@@ -30,14 +34,16 @@ use Rattle.units.specs.Units.{metIn, metOf}
 use Rattle.policy.specs.Accepted.{IsPolicy}
 use Rattle.policy.proofs.Refusals.{clear}
 use Rattle.policy.proofs.Accepted.{decode-is-term}
+use Rattle.workflow.specs.Workflows.{transitionsOf, isGiven, isFinalState, workflowOf}
 use Rattle.instance.specs.declared.Configuration.{Configuration}
 use Rattle.instance.specs.declared.Instance.{Instance}
 use Rattle.monitor.specs.declared.Monitor.{Monitor}
 use Rattle.monitor.specs.declared.Event.{Event}
 use Rattle.monitor.specs.declared.Event.the-variants.{Acts, Grants, Revokes, Closes, Malformed}
 use Rattle.instance.specs.Configurations.{assignment, held}
-use Rattle.instance.specs.Instances.{policyOf, takenOf, term, isClosed, noted as notedAs, notedFor}
-use Rattle.monitor.specs.Monitors.{Opening, policy, openCode, fresh, opened, wellFormed}
+use Rattle.instance.specs.Instances.{policyOf, takenOf, term, hasWorkflow, isClosed, noted as notedAs, notedFor}
+use Rattle.instance.specs.Steps.{isAuthorized, leadsTo, stateOf, isFinal as isFinalHere}
+use Rattle.monitor.specs.Monitors.{Opening, policy, secure, openCode, fresh, opened, wellFormed}
 use Rattle.monitor.specs.Events.{eventIn, ownRefusals, configured, advanced, applied, eventCode, eventMonitor, outcome, tried}
 use Rattle.monitor.specs.Laws.{Declared, Passed}
 use Rattle.monitor.specs.Runs.{Lengths, from, stepOf, run, final}
@@ -49,7 +55,9 @@ use Rattle.monitor.proofs.Order.{accepted-has-passed}
 use Rattle.instance.proofs.Formed.{taken-more}
 use Rattle.monitor.proofs.Preserved.{opened-is-well-formed, accepted-stays-well-formed}
 use Rattle.claims.specs.Runs.{symbolOf, kept, accepted}
+use Rattle.claims.specs.Ordered.{isOrdered, permissionsOf, ordering, finals, stateAfter, leadsAfter, mayEnd, isPermitted}
 use Rattle.claims.specs.Accuracy.{traceOf, hasClosed, businessEvents}
+use Rattle.claims.proofs.Ordered.{given-is-ordered, same-workflow, same-authorized}
 
 -- ── traces and symbols that grow at their end ──
 upd-append : (s t : Trace) (ua : UA) → upd ua (s ++ t) ≡ upd (upd ua s) t
@@ -126,6 +134,15 @@ pub record Follows (o : Opening) (m : Monitor) (l : List Symbol) : Type 0 where
   pub fits : So (possible (policy o) 0 (takenOf (m .instance)))
   pub below : So (actedBelow (o .users) (traceOf l))
   pub ends : l ≡ ended (traceOf l) (hasClosed l)
+  pub same-permissions : m .configuration .permissions ≡ secure o .permissions
+  pub same-workflow : m .instance .workflow ≡ secure o .workflow
+  pub same-state : So (isOrdered o) → stateAfter o (traceOf l) ≡ To (m .instance .state)
+  pub permitted : So (isOrdered o) → So (authorizedAll (permissionsOf o) (o .rows) (traceOf l))
+
+-- a trace that goes on somewhere
+arrives : (s : Successor) → So (isSomewhere s) → follow s To ≡ To (stateOf s)
+arrives (To n) h = refl
+arrives Nowhere h = never h
 
 module _ (o : Opening) (z : openCode o ≡ 0) where
   follows-fresh : Follows o (fresh o) []
@@ -143,6 +160,10 @@ module _ (o : Opening) (z : openCode o ≡ 0) where
     fits = empty-set Action (λ a. a .user) (λ φ j a. bit j (a .met)) true (policy o) 0;
     below = refl;
     ends = refl;
+    same-permissions = refl;
+    same-workflow = refl;
+    same-state = λ h. refl;
+    permitted = λ h. refl;
   }
 
   pub follows-opened : Follows o (opened o) []
@@ -190,6 +211,44 @@ module _ (o : Opening) (z : openCode o ≡ 0) where
         counted l (o .rows) ∙ sym (length-map (executed (o .rows) t) (note (policy o))) ∙ ap (λ (s : List Action). length s) (sym (f .same-taken))
         ∙ length-take-le (i .taken) (i .actions) (omega (arith, f .places, taken-most))
 
+    -- ── permissions and workflow ──
+    gives-ordered : hasWorkflow i ≡ isOrdered o
+    gives-ordered = ap isGiven (f .same-workflow) ∙ given-is-ordered o z
+
+    module _ (h : So (isOrdered o)) where
+      given-workflow : i .workflow ≡ workflowOf (o .workflow)
+      given-workflow = f .same-workflow ∙ same-workflow o z h
+
+      leads-to : (a : ℕ) → leadsTo i a ≡ successor (ordering o) (i .state) a
+      unfolding leadsTo
+      leads-to a = rw (gives-ordered ∙ h) (ap (λ w. successor (transitionsOf w) (i .state) a) given-workflow)
+
+      leads-next : (a : ℕ) → leadsTo i a ≡ leadsAfter o t a
+      leads-next a = leads-to a ∙ sym (ap (λ s. follow s (λ n. successor (ordering o) n a)) (f .same-state h))
+
+      authorized-next : (u a : ℕ) → u < c .users → authorized (c .permissions) (held c u) a ≡ isPermitted o t u a
+      authorized-next u a d =
+          ap₂ (λ p x. authorized p x a) (f .same-permissions) (row-at u d ∙ ap (λ x. roles x u) (f .same-rows)) ∙ same-authorized o z h (roles ua u) a
+
+      final-next : isFinalState (i .workflow) (i .state) ≡ isFinal (finals o) (stateAfter o t)
+      final-next = ap (λ w. isFinalState w (i .state)) given-workflow ∙ sym (ap (isFinal (finals o)) (f .same-state h))
+
+    -- what the three tests are
+    pub may-is : (u a : ℕ) → u < c .users → isAuthorized c i u a ≡ (not (isOrdered o) || isPermitted o t u a)
+    unfolding isAuthorized
+    may-is u a d = by-test (isOrdered o) (λ h. rw (gives-ordered ∙ h, h) (authorized-next h u a d)) (λ h. rw (gives-ordered ∙ h, h))
+
+    stays-there : (a : ℕ) → isOrdered o ≡ false → isSomewhere (leadsTo i a) ≡ true
+    unfolding leadsTo
+    stays-there a h = rw (gives-ordered ∙ h)
+
+    pub goes-is : (a : ℕ) → isSomewhere (leadsTo i a) ≡ (not (isOrdered o) || isSomewhere (leadsAfter o t a))
+    goes-is a = by-test (isOrdered o) (λ h. rw h (ap isSomewhere (leads-next h a))) (λ h. rw h (stays-there a h))
+
+    pub end-is : isFinalHere i ≡ mayEnd o t
+    unfolding isFinalHere
+    end-is = by-test (isOrdered o) (λ h. rw (gives-ordered ∙ h, h) (final-next h)) (λ h. rw (gives-ordered ∙ h, h))
+
     -- ── an event that enters, part by part ──
     rows-next : (e : Event) → Declared (c .users) (c .roles) e → assignment (configured c e) ≡ upd (assignment c) (traceOf (symbolOf e))
     rows-next (Acts u a) d = refl
@@ -201,13 +260,13 @@ module _ (o : Opening) (z : openCode o ≡ 0) where
     rows-next Malformed d = refl
 
     -- an action that is taken
-    more : (u : ℕ) → i .taken < 12 → takenOf (advanced c i (Acts u 0)) ≡ tried c i u
-    more u free = taken-more i (notedFor c i u) (omega (arith, f .places))
+    more : (u a : ℕ) → i .taken < 12 → takenOf (advanced c i (Acts u a)) ≡ tried c i u
+    more u a free = taken-more i (notedFor c i u) (stateOf (leadsTo i a)) (omega (arith, f .places))
 
     taken-next : (e : Event) → Declared (c .users) (c .roles) e → code (ownRefusals c i e) ≡ 0 → takenOf (advanced c i e) ≡ takenOf i ++ noted (policy o) ua (traceOf (symbolOf e))
     taken-next (Acts u a) d k =
         let j = clear (ownRefusals c i (Acts u a)) refl k in
-        more u (leb-false 12 (i .taken) (j .0)) ∙ ap (λ x. takenOf i ++ (x ∷ [])) (noted-next u d)
+        more u a (leb-false 12 (i .taken) (j .1 .1 .0)) ∙ ap (λ x. takenOf i ++ (x ∷ [])) (noted-next u d)
     taken-next (Grants u r) d k = sym (append-nil (takenOf i))
     taken-next (Revokes u r) d k = sym (append-nil (takenOf i))
     taken-next Closes d k = sym (append-nil (takenOf i))
@@ -216,7 +275,7 @@ module _ (o : Opening) (z : openCode o ≡ 0) where
     fits-next : (e : Event) → Declared (c .users) (c .roles) e → code (ownRefusals c i e) ≡ 0 → So (possible (policy o) 0 (takenOf (advanced c i e)))
     fits-next (Acts u a) d k =
         let j = clear (ownRefusals c i (Acts u a)) refl k in
-        ap₂ (λ φ s. possible φ 0 s) (sym same-term) (more u (leb-false 12 (i .taken) (j .0))) ∙ not-false (possible (term i) 0 (tried c i u)) (j .1 .0)
+        ap₂ (λ φ s. possible φ 0 s) (sym same-term) (more u a (leb-false 12 (i .taken) (j .1 .1 .0))) ∙ not-false (possible (term i) 0 (tried c i u)) (j .1 .1 .1 .0)
     fits-next (Grants u r) d k = f .fits
     fits-next (Revokes u r) d k = f .fits
     fits-next Closes d k = f .fits
@@ -253,13 +312,44 @@ module _ (o : Opening) (z : openCode o ≡ 0) where
         go Closes = ap finished (sym (append-nil t))
         go Malformed = append-nil (unfinished t) ∙ ap unfinished (sym (append-nil t))
 
-    -- the counts and the policy stay
+    -- the counts, the policy, the permissions and the workflow stay
     stays : (e : Event) → (configured c e .users ≡ c .users) × (configured c e .roles ≡ c .roles) × (policyOf (advanced c i e) ≡ policyOf i)
-    stays (Acts u a) = (refl, refl, refl)
-    stays (Grants u r) = (refl, refl, refl)
-    stays (Revokes u r) = (refl, refl, refl)
-    stays Closes = (refl, refl, refl)
-    stays Malformed = (refl, refl, refl)
+        × (configured c e .permissions ≡ c .permissions) × (advanced c i e .workflow ≡ i .workflow)
+    stays (Acts u a) = (refl, refl, refl, refl, refl)
+    stays (Grants u r) = (refl, refl, refl, refl, refl)
+    stays (Revokes u r) = (refl, refl, refl, refl, refl)
+    stays Closes = (refl, refl, refl, refl, refl)
+    stays Malformed = (refl, refl, refl, refl, refl)
+
+    module _ (h : So (isOrdered o)) where
+      -- where more of a trace leads
+      state-more : (s : Trace) → stateAfter o (t ++ s) ≡ reached (ordering o) (i .state) s
+      state-more s = reached-append (ordering o) t s 0 ∙ ap (λ x. follow x (λ n. reached (ordering o) n s)) (f .same-state h)
+
+      state-next : (e : Event) → code (ownRefusals c i e) ≡ 0 → stateAfter o (t ++ traceOf (symbolOf e)) ≡ To (advanced c i e .state)
+      state-next (Acts u a) k =
+          let j = clear (ownRefusals c i (Acts u a)) refl k in
+          state-more (business u a ∷ []) ∙ ap (λ s. follow s To) (sym (leads-to h a)) ∙ arrives (leadsTo i a) (not-false (isSomewhere (leadsTo i a)) (j .1 .0))
+      state-next (Grants u r) k = state-more (addUA u r ∷ [])
+      state-next (Revokes u r) k = state-more (rmUA u r ∷ [])
+      state-next Closes k = state-more []
+      state-next Malformed k = state-more []
+
+      permitted-more : (s : Trace) → So (authorizedAll (permissionsOf o) ua s) → So (authorizedAll (permissionsOf o) (o .rows) (t ++ s))
+      permitted-more s p =
+          authorized-append (permissionsOf o) t s (o .rows)
+          ∙ and-join (authorizedAll (permissionsOf o) (o .rows) t) (authorizedAll (permissionsOf o) ua s) (f .permitted h) p
+
+      permitted-next : (e : Event) → Declared (c .users) (c .roles) e → code (ownRefusals c i e) ≡ 0
+          → So (authorizedAll (permissionsOf o) (o .rows) (t ++ traceOf (symbolOf e)))
+      permitted-next (Acts u a) d k =
+          let j = clear (ownRefusals c i (Acts u a)) refl k in
+          let may : So (isPermitted o t u a) = rw (may-is u a d, h) at (not-false (isAuthorized c i u a) (j .0)) in
+          permitted-more (business u a ∷ []) (and-join (isPermitted o t u a) true may refl)
+      permitted-next (Grants u r) d k = permitted-more (addUA u r ∷ []) refl
+      permitted-next (Revokes u r) d k = permitted-more (rmUA u r ∷ []) refl
+      permitted-next Closes d k = permitted-more [] refl
+      permitted-next Malformed d k = permitted-more [] refl
 
     -- the symbols of the next event behind the accepted ones
     trace-next : (e : Event) → traceOf (l ++ symbolOf e) ≡ t ++ traceOf (symbolOf e)
@@ -267,7 +357,7 @@ module _ (o : Opening) (z : openCode o ≡ 0) where
 
     follows-next : (e : Event) (n : ℕ) → Passed m e n → Declared (c .users) (c .roles) e → So (wellFormed (applied m e)) → Follows o (applied m e) (l ++ symbolOf e)
     follows-next e n p d h =
-        let (users, roles, words) = stays e in
+        let (users, roles, words, permissions, workflow) = stays e in
         let s = traceOf (symbolOf e) in
         let was-open : hasClosed l ≡ false = sym (f .same-mark) ∙ p .is-open in
         let closed : hasClosed (l ++ symbolOf e) ≡ hasClosed (symbolOf e) = closed-append l (symbolOf e) ∙ ap (λ b. b || hasClosed (symbolOf e)) was-open in
@@ -284,6 +374,10 @@ module _ (o : Opening) (z : openCode o ≡ 0) where
           fits = fits-next e d (p .own);
           below = subst (λ x. So (actedBelow (o .users) x)) (sym (trace-next e)) (below-append (o .users) t s (f .below) (below-next e d));
           ends = ends-next e was-open ∙ ap₂ ended (sym (trace-next e)) (sym closed);
+          same-permissions = permissions ∙ f .same-permissions;
+          same-workflow = workflow ∙ f .same-workflow;
+          same-state = λ x. ap (stateAfter o) (trace-next e) ∙ state-next x e (p .own);
+          permitted = λ x. subst (λ y. So (authorizedAll (permissionsOf o) (o .rows) y)) (sym (trace-next e)) (permitted-next x e d (p .own));
         }
 
     -- ── one step of a run ──

@@ -20,38 +20,38 @@ use Rattle.claims.specs.KeptMask.{kept, AskIsCall, KeptIsNow}
 
 pub ask-is-call : AskIsCall
 unfolding enabledOf
-ask-is-call m before = refl
+ask-is-call m a before = refl
 
 same-admission : (m : Monitor) (n k : ℕ) → 8192 ≤ n → 8192 ≤ k → admission m n ≡ admission m k
 unfolding admission
 same-admission m n k h j = rw (le-ltb n 8192 h, le-ltb k 8192 j)
 
 -- the answer by what is refused first
-by-admission : Monitor → Refusals → Enabled
-by-admission m l = answered (code l) (number (map (λ u. eqb (code (l ++ behind u)) 0) (range 0 (m .configuration .users))))
+by-admission : Monitor → ℕ → Refusals → Enabled
+by-admission m a l = answered (code l) (number (map (λ u. eqb (code (l ++ behind u)) 0) (range 0 (m .configuration .users))))
   where
     behind : ℕ → Refusals
-    behind u = let e = eventIn m (actionWord u 0) in entry (m .instance) e ++ ownRefusals (m .configuration) (m .instance) e
+    behind u = let e = eventIn m (actionWord u a) in entry (m .instance) e ++ ownRefusals (m .configuration) (m .instance) e
 
-long-alike : (m : Monitor) (n k : ℕ) → 8192 ≤ n → 8192 ≤ k → enabledIn m n ≡ enabledIn m k
+long-alike : (m : Monitor) (n k a : ℕ) → 8192 ≤ n → 8192 ≤ k → enabledIn m n a ≡ enabledIn m k a
 unfolding eventRefusals enabledMask by-admission
-long-alike m n k h j = ap (by-admission m) (same-admission m n k h j)
+long-alike m n k a h j = ap (by-admission m a) (same-admission m n k h j)
 
-module _ (now : ℕ) (long : 8192 ≤ now) where
-  stays : (m : Monitor) (words : List ℕ) (n asks : Lengths) (a : Enabled) → Enough asks → a ≡ enabledIn m now
-      → kept a (run m words n) asks ≡ enabledIn (final m (run m words n)) now
+module _ (a now : ℕ) (long : 8192 ≤ now) where
+  stays : (m : Monitor) (words : List ℕ) (n asks : Lengths) (had : Enabled) → Enough asks → had ≡ enabledIn m now a
+      → kept a had (run m words n) asks ≡ enabledIn (final m (run m words n)) now a
   unfolding run
-  stays m [] n asks a enough e = e
-  stays m (w ∷ ws) n asks a enough e = stays (eventMonitor m w (n 0)) ws (from 2 n) (from 1 asks) _ (λ k. enough _) (by-test (eqb (eventCode m w (n 0)) 0) asked refused)
+  stays m [] n asks had enough e = e
+  stays m (w ∷ ws) n asks had enough e = stays (eventMonitor m w (n 0)) ws (from 2 n) (from 1 asks) _ (λ k. enough _) (by-test (eqb (eventCode m w (n 0)) 0) asked refused)
     where
       next : Enabled
-      next = cond (eqb (eventCode m w (n 0)) 0) (enabledIn (eventMonitor m w (n 0)) (asks 0)) a
+      next = cond (eqb (eventCode m w (n 0)) 0) (enabledIn (eventMonitor m w (n 0)) (asks 0) a) had
 
-      asked : eqb (eventCode m w (n 0)) 0 ≡ true → next ≡ enabledIn (eventMonitor m w (n 0)) now
-      asked t = ap (λ b. cond b (enabledIn (eventMonitor m w (n 0)) (asks 0)) a) t ∙ long-alike (eventMonitor m w (n 0)) (asks 0) now (enough 0) long
+      asked : eqb (eventCode m w (n 0)) 0 ≡ true → next ≡ enabledIn (eventMonitor m w (n 0)) now a
+      asked t = ap (λ b. cond b (enabledIn (eventMonitor m w (n 0)) (asks 0) a) had) t ∙ long-alike (eventMonitor m w (n 0)) (asks 0) now a (enough 0) long
 
-      refused : eqb (eventCode m w (n 0)) 0 ≡ false → next ≡ enabledIn (eventMonitor m w (n 0)) now
-      refused f = ap (λ b. cond b (enabledIn (eventMonitor m w (n 0)) (asks 0)) a) f ∙ e ∙ sym (ap (λ b. enabledIn (cond b (applied m (eventIn m w)) m) now) f)
+      refused : eqb (eventCode m w (n 0)) 0 ≡ false → next ≡ enabledIn (eventMonitor m w (n 0)) now a
+      refused f = ap (λ b. cond b (enabledIn (eventMonitor m w (n 0)) (asks 0) a) had) f ∙ e ∙ sym (ap (λ b. enabledIn (cond b (applied m (eventIn m w)) m) now a) f)
 
 pub kept-is-now : KeptIsNow
-kept-is-now m words n asks now enough long = stays now long m words n (from 1 asks) (enabledIn m (asks 0)) (λ k. enough _) (long-alike m (asks 0) now (enough 0) long)
+kept-is-now m a words n asks now enough long = stays a now long m words n (from 1 asks) (enabledIn m (asks 0) a) (λ k. enough _) (long-alike m (asks 0) now a (enough 0) long)

@@ -1,5 +1,7 @@
 -- What a run is made of.
 pub mod Calls
+-- Permissions and workflow of an opening.
+pub mod Ordered
 -- Demand 2.
 pub mod Follows
 pub mod Answers

@@ -21,7 +21,7 @@ use Rattle.policy.specs.Refusals.{Refusals, _gives_}
 use Rattle.policy.proofs.Refusals.{clear, clear-code, clear-front, clear-behind, code-behind}
 use Rattle.instance.specs.Configurations.{isZero}
 use Rattle.monitor.specs.Monitors.{Opening, policy, openRefusals, openCode}
-use Rattle.multiset.specs.MultisetTest.{total, listed, notedBy, testRefusals, testCode, letterY, letterN, testOf}
+use Rattle.multiset.specs.MultisetTest.{total, listed, notedBy, unordered, testRefusals, testCode, letterY, letterN, testOf}
 use Rattle.claims.specs.Accuracy.{Testable, Counted, TestIsMultiset}
 use Rattle.claims.proofs.Follows.{formed-policy, noted-is-note}
 
@@ -86,10 +86,10 @@ module _ (o : Opening) (counts : List ℕ) (n : ℕ) where
   unfolding testRefusals openRefusals
   testable e =
       let (short, rest) = clear (testRefusals o counts n) refl e in
-      let (undeclared, many) = clear-behind (openRefusals o) own rest in
+      let (undeclared, many) = clear-behind (openRefusals (unordered o)) own rest in
       record {
         long = ltb-false n 8192 short;
-        opens = clear-code (openRefusals o) (clear-front (openRefusals o) own rest);
+        opens = clear-code (openRefusals (unordered o)) (clear-front (openRefusals (unordered o)) own rest);
         declared = λ u k. zero-from counts (o .users) u (not-false (all isZero (drop (o .users) counts)) undeclared) k;
         few = ltb-false 12 (total counts) (many .0);
       }
@@ -98,16 +98,16 @@ module _ (o : Opening) (counts : List ℕ) (n : ℕ) where
   unfolding testRefusals openRefusals
   unrefused t =
       let d : all isZero (drop (o .users) counts) ≡ true = all-from counts (o .users) (t .declared) in
-      rw (le-ltb n 8192 (t .long)) (code-behind (openRefusals o) own (clear (openRefusals o) refl (t .opens)) ∙ rw (d, le-ltb 12 (total counts) (t .few)))
+      rw (le-ltb n 8192 (t .long)) (code-behind (openRefusals (unordered o)) own (clear (openRefusals (unordered o)) refl (t .opens)) ∙ rw (d, le-ltb 12 (total counts) (t .few)))
 
 -- what the test's judgement says
-judged : (o : Opening) → openCode o ≡ 0 → (counts : List ℕ) → So (satisfied (policy o) 0 (map (notedBy o) (listed 0 counts))) ↔ Counted o counts
+judged : (o : Opening) → openCode (unordered o) ≡ 0 → (counts : List ℕ) → So (satisfied (policy o) 0 (map (notedBy o) (listed 0 counts))) ↔ Counted o counts
 judged o z counts =
     subst₂ (λ f U. So (satisfied (policy o) 0 (map f (listed 0 counts))) ↔ SatM (o .rows) U (policy o)) (sym same-notes) (counted-users counts)
-    (satisfied-is-users (policy o) (formed-policy o z) (o .rows) (listed 0 counts))
+    (satisfied-is-users (policy o) (formed-policy (unordered o) z) (o .rows) (listed 0 counts))
   where
     same-notes : notedBy o ≡ (λ u. note (policy o) (execution (o .rows) u))
-    same-notes = fun-ext (λ u. noted-is-note o z u (roles (o .rows) u))
+    same-notes = fun-ext (λ u. noted-is-note (unordered o) z u (roles (o .rows) u))
 
 -- the letters of a test: whether it is not refused, and its judgement
 letters : (z s : Bool) {T P : Type 0} → So z ↔ T → (T → So s ↔ P)

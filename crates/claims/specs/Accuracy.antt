@@ -1,5 +1,5 @@
--- Demand 2: after an opening and any events, the monitor answers what Definitions 3, 6 and 7 of document 004 say, with rule 4 of Definition 3
--- as document 02's E3 replaces it (`Rule4` of soda). Statements only.
+-- Demand 2: after an opening and any events, the monitor answers what document 004 says, its Definitions 3, 6 and 7, with rule 4 of Definition
+-- 3 as document 02's E3 replaces it (`Rule4` of soda), and with permissions and a workflow its process SSW (E4). Statements only.
 -- `eventCode` and `statusLetter` are fields of `outcome` and `statusOf`, which the contracts of `event` and `status` cite. Both are
 -- given the length of the workspace alone, so its contents play no part (`StepIsCalls` of Calls).
 use mathlib.Core.Path.{_≡_}
@@ -13,8 +13,8 @@ use Rattle.soda.specs.Lists.{any}
 use Rattle.soda.specs.Multisets.{SatM}
 use Rattle.soda.specs.Traces.{admin, Trace, businessOnly, users, SatT}
 use Rattle.soda.specs.Csp.{Accepts}
-use Rattle.soda.specs.Processes.{Symbol, event, done, isDone, body, SOD}
-use Rattle.policy.specs.Codes.{ACCEPTED, FULL}
+use Rattle.soda.specs.Processes.{Symbol, event, done, P, isDone, body, SOD, W, RBAC, SSW, withoutAdmin, withoutDone}
+use Rattle.policy.specs.Codes.{ACCEPTED, FULL, NOT-AUTHORIZED, NO-TRANSITION}
 use Rattle.monitor.specs.declared.Monitor.{Monitor}
 use Rattle.monitor.specs.declared.Event.{Event}
 use Rattle.monitor.specs.declared.Event.the-variants.{Acts, Grants, Revokes, Closes, Malformed}
@@ -22,8 +22,9 @@ use Rattle.monitor.specs.Monitors.{Opening, policy, openCode, opened}
 use Rattle.monitor.specs.Events.{readEvent, isMalformed, eventCode}
 use Rattle.monitor.specs.Statuses.{letterD, letterC, letterO, statusLetter}
 use Rattle.monitor.specs.Runs.{Lengths, Step, run, final, isAction}
-use Rattle.multiset.specs.MultisetTest.{total, letterY, letterN, testOf}
+use Rattle.multiset.specs.MultisetTest.{total, letterY, letterN, unordered, testOf}
 use Rattle.claims.specs.Runs.{symbolOf, accepted}
+use Rattle.claims.specs.Ordered.{isOrdered, permissionsOf, ordering, finals, mayEnd}
 
 -- An opening answered 0, then any list of words as events, with workspaces of any lengths: an event whose workspace is too short is
 -- refused, as others are for other reasons.
@@ -76,38 +77,77 @@ hasRoom l Malformed = true
 abbrev pub Satisfies : Run → Type 0
 Satisfies r = SatT (r .start .rows) (traceOf (history r)) (policy (r .start))
 
--- the enforcement process of its policy (Definition 8) has these events
+-- The processes of its opening: W of its workflow, RBAC of its grants and permissions, SOD of its policy (Definition 8), and all three
+-- together; where neither permissions nor workflow are given, SOD alone.
+abbrev pub workflowOf : Opening → P
+workflowOf o = W (ordering o) (finals o)
+
+abbrev pub accessOf : Opening → P
+accessOf o = RBAC (o .rows) (permissionsOf o)
+
+abbrev pub policyOf : Opening → P
+policyOf o = SOD (policy o) (o .users) (o .rows)
+
+abbrev pub processOf : Opening → P
+processOf o = cond (isOrdered o) (SSW (policy o) (o .users) (ordering o) (finals o) (o .rows) (permissionsOf o)) (policyOf o)
+
+-- the process has these events
 abbrev pub Enforced : Run → List Symbol → Type 1
-Enforced r l = Accepts body (SOD (policy (r .start)) (r .start .users) (r .start .rows)) l
+Enforced r l = Accepts body (processOf (r .start)) l
+
+-- of an action in the layout while no close has been accepted: RBAC has the accepted events followed by it, and W has
+abbrev pub Authorized : Run → Event → Type 1
+Authorized r e = Accepts body (accessOf (r .start)) (withoutDone (history r ++ symbolOf e))
+
+abbrev pub InOrder : Run → Event → Type 1
+InOrder r e = Accepts body (workflowOf (r .start)) (withoutAdmin (history r ++ symbolOf e))
 
 -- ── the claims ──
--- The next word in the layout, be it an action, a grant, a revocation or a close, is answered 0 exactly when the enforcement
--- process has the accepted events followed by it. For an action fewer than twelve have been taken.
+-- The next word in the layout, be it an action, a grant, a revocation or a close, is answered 0 exactly when the process has the
+-- accepted events followed by it. For an action fewer than twelve have been taken.
 abbrev pub EventIsProcess : Type 1
 EventIsProcess =
     (r : Run) (w n : ℕ) → 8192 ≤ n → isMalformed (next r w) ≡ false → So (hasRoom (history r) (next r w))
     → (eventCode (left r) w n ≡ ACCEPTED) ↔ Enforced r (history r ++ symbolOf (next r w))
 
--- 8 is answered exactly when the word is an action in the layout, no close has been accepted, and twelve actions have been.
-abbrev pub EightIsFull : Type 0
+-- 16 is answered exactly when permissions are given, the word is an action in the layout, no close has been accepted, and RBAC does not
+-- take it; 17 exactly when RBAC does and the workflow does not.
+abbrev pub SixteenIsAccess : Type 1
+SixteenIsAccess =
+    (r : Run) (w n : ℕ) → 8192 ≤ n
+    → (eventCode (left r) w n ≡ NOT-AUTHORIZED)
+    ↔ (So (isAction (next r w)) × So (not (hasClosed (history r))) × So (isOrdered (r .start)) × (Authorized r (next r w) → ⊥))
+
+abbrev pub SeventeenIsOrder : Type 1
+SeventeenIsOrder =
+    (r : Run) (w n : ℕ) → 8192 ≤ n
+    → (eventCode (left r) w n ≡ NO-TRANSITION)
+    ↔ (So (isAction (next r w)) × So (not (hasClosed (history r))) × So (isOrdered (r .start)) × Authorized r (next r w) × (InOrder r (next r w) → ⊥))
+
+-- 8 is answered exactly when the word is an action in the layout, no close has been accepted, twelve actions have been, and RBAC and the
+-- workflow, if they are given, take it.
+abbrev pub EightIsFull : Type 1
 EightIsFull =
     (r : Run) (w n : ℕ) → 8192 ≤ n
-    → (eventCode (left r) w n ≡ FULL) ↔ (So (isAction (next r w)) × So (not (hasClosed (history r))) × (businessEvents (history r) ≡ 12))
+    → (eventCode (left r) w n ≡ FULL)
+    ↔ (So (isAction (next r w)) × So (not (hasClosed (history r))) × (businessEvents (history r) ≡ 12)
+    × (So (isOrdered (r .start)) → Authorized r (next r w) × InOrder r (next r w)))
 
--- A close is answered 0 exactly when the run satisfies the policy under the trace rules. (No close has been accepted: 004's traces end
--- with done.)
+-- A close is answered 0 exactly when the run satisfies the policy under the trace rules and the workflow, if it is given, is in a final
+-- state. (No close has been accepted: 004's traces end with done.)
 abbrev pub CloseIsTrace : Type 0
 CloseIsTrace =
     (r : Run) (w n : ℕ) → 8192 ≤ n → next r w ≡ Closes → So (not (hasClosed (history r)))
-    → (eventCode (left r) w n ≡ ACCEPTED) ↔ Satisfies r
+    → (eventCode (left r) w n ≡ ACCEPTED) ↔ (Satisfies r × So (mayEnd (r .start) (traceOf (history r))))
 
--- With no grant or revocation in the run, exactly when the multiset of its users does.
+-- With no grant or revocation in the run, exactly when the multiset of its users does and the workflow is in one.
 abbrev pub CloseIsMultiset : Type 0
 CloseIsMultiset =
     (r : Run) (w n : ℕ) → 8192 ≤ n → next r w ≡ Closes → So (not (hasClosed (history r))) → So (businessOnly (traceOf (history r)))
-    → (eventCode (left r) w n ≡ ACCEPTED) ↔ SatM (r .start .rows) (users (traceOf (history r))) (policy (r .start))
+    → (eventCode (left r) w n ≡ ACCEPTED)
+    ↔ (SatM (r .start .rows) (users (traceOf (history r))) (policy (r .start)) × So (mayEnd (r .start) (traceOf (history r))))
 
--- The status is `d` exactly when a close has been accepted; else it is `c` exactly when the run satisfies the policy under the trace
+-- The status does not look at the workflow: it is `d` exactly when a close has been accepted; else it is `c` exactly when the run satisfies the policy under the trace
 -- rules, and `o` exactly when it does not.
 abbrev pub StatusIsTrace : Type 0
 StatusIsTrace =
@@ -116,11 +156,11 @@ StatusIsTrace =
     × ((statusLetter (left r) n ≡ letterC) ↔ (So (not (hasClosed (history r))) × Satisfies r))
     × ((statusLetter (left r) n ≡ letterO) ↔ (So (not (hasClosed (history r))) × (Satisfies r → ⊥)))
 
--- The input of a multiset test: a workspace long enough, an opening that would be accepted, no action by a user who is not declared, and
--- twelve actions at most.
+-- The input of a multiset test: a workspace long enough, an opening that would be accepted without permissions and workflow, no action by a
+-- user who is not declared, and twelve actions at most.
 pub record Testable (o : Opening) (counts : List ℕ) (n : ℕ) : Type 0 where
   pub long : 8192 ≤ n
-  pub opens : openCode o ≡ ACCEPTED
+  pub opens : openCode (unordered o) ≡ ACCEPTED
   pub declared : (u : ℕ) → o .users ≤ u → getD counts u 0 ≡ 0
   pub few : total counts ≤ 12
 

@@ -31,13 +31,13 @@ pub record AnsweredAlike (o p : Opening) : Type 0 where
   pub events : (ws : List ℕ) (n n′ : Lengths) → Enough n → Enough n′ → lines (run (opened o) ws n) ≡ lines (run (opened p) ws n′)
 
 -- Two accepted policies over the same counts, and an output long enough for each: they have the same normal form exactly when exchanges
--- and regroupings lead from one to the other. If they have the same normal form then, opened on the same grants, they are answered
--- alike.
+-- and regroupings lead from one to the other. If they have the same normal form then, opened on the same grants, permissions and workflow,
+-- they are answered alike.
 pub record Alike (users roles : ℕ) (v w out out′ : List ℕ) : Type 0 where
   pub form : (normal users roles v out ≡ normal users roles w out′) ↔ WordSteps v w
-  pub answers : normal users roles v out ≡ normal users roles w out′ → (rows : List ℕ)
-      → openCode (given users roles v rows) ≡ ACCEPTED → openCode (given users roles w rows) ≡ ACCEPTED
-      → AnsweredAlike (given users roles v rows) (given users roles w rows)
+  pub answers : normal users roles v out ≡ normal users roles w out′ → (rows permissions workflow : List ℕ)
+      → openCode (given users roles v rows permissions workflow) ≡ ACCEPTED → openCode (given users roles w rows permissions workflow) ≡ ACCEPTED
+      → AnsweredAlike (given users roles v rows permissions workflow) (given users roles w rows permissions workflow)
 
 abbrev pub EqualForms : Type 0
 EqualForms =

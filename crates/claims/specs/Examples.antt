@@ -8,7 +8,7 @@ use lib.ListN.{length, take, replicate}
 use Rattle.soda.specs.Lists.{all, padded}
 use Rattle.policy.specs.Reading.{readPolicy, numberOf}
 use Rattle.normal.specs.NormalForms.{normalOut}
-use Rattle.monitor.specs.Monitors.{Opening, given, openCode, opened}
+use Rattle.monitor.specs.Monitors.{Opening, bare, openCode, opened}
 use Rattle.monitor.specs.Statuses.{letterD, letterC, letterO}
 use Rattle.monitor.specs.Runs.{run}
 use Rattle.multiset.specs.MultisetTest.{letterY, letterN, testOf}
@@ -68,23 +68,23 @@ d k = (k, 0, letterD)
 abbrev pub table : List Example
 table =
     -- P1: listing L
-    events (given 3 3 F (2 ∷ 1 ∷ 0 ∷ []))
+    events (bare 3 3 F (2 ∷ 1 ∷ 0 ∷ []))
     (0x01000001 ∷ 0x01000102 ∷ 0x02000102 ∷ 0x02000202 ∷ 0x04000000 ∷ 0x01000203 ∷ 0x01000004 ∷ 0x04000000 ∷ 0x01000004 ∷ [])
     (o 0 ∷ o 0 ∷ o 0 ∷ o 0 ∷ o 11 ∷ c 0 ∷ c 0 ∷ d 0 ∷ d 10 ∷ [])
     -- P2, P3, P4
-    ∷ test (given 3 3 F (2 ∷ 5 ∷ 4 ∷ [])) (2 ∷ 1 ∷ 1 ∷ []) true
-    ∷ test (given 3 3 F (2 ∷ 5 ∷ 4 ∷ [])) (1 ∷ 0 ∷ 1 ∷ []) false
-    ∷ test (given 3 3 F (2 ∷ 5 ∷ 4 ∷ [])) (1 ∷ 1 ∷ []) false
+    ∷ test (bare 3 3 F (2 ∷ 5 ∷ 4 ∷ [])) (2 ∷ 1 ∷ 1 ∷ []) true
+    ∷ test (bare 3 3 F (2 ∷ 5 ∷ 4 ∷ [])) (1 ∷ 0 ∷ 1 ∷ []) false
+    ∷ test (bare 3 3 F (2 ∷ 5 ∷ 4 ∷ [])) (1 ∷ 1 ∷ []) false
     -- P5: user 2 acts first
-    ∷ events (given 3 3 F (2 ∷ 1 ∷ 0 ∷ [])) (0x01000200 ∷ []) (o 9 ∷ [])
+    ∷ events (bare 3 3 F (2 ∷ 1 ∷ 0 ∷ [])) (0x01000200 ∷ []) (o 9 ∷ [])
     -- P6: grant user 1 role 2, act, withdraw, act, close; by document 02's E3 the last action is answered 9 and the close 11
-    ∷ events (given 3 3 G (0 ∷ 0 ∷ 0 ∷ [])) (0x02000102 ∷ 0x01000100 ∷ 0x03000102 ∷ 0x01000100 ∷ 0x04000000 ∷ []) (o 0 ∷ o 0 ∷ o 0 ∷ o 9 ∷ o 11 ∷ [])
+    ∷ events (bare 3 3 G (0 ∷ 0 ∷ 0 ∷ [])) (0x02000102 ∷ 0x01000100 ∷ 0x03000102 ∷ 0x01000100 ∷ 0x04000000 ∷ []) (o 0 ∷ o 0 ∷ o 0 ∷ o 9 ∷ o 11 ∷ [])
     -- P7: user 0 makes the first action; by E3 it is answered 9 as well
-    ∷ events (given 3 3 G (0 ∷ 0 ∷ 0 ∷ [])) (0x02000102 ∷ 0x01000000 ∷ 0x03000102 ∷ 0x01000100 ∷ []) (o 0 ∷ o 9 ∷ o 0 ∷ o 9 ∷ [])
+    ∷ events (bare 3 3 G (0 ∷ 0 ∷ 0 ∷ [])) (0x02000102 ∷ 0x01000000 ∷ 0x03000102 ∷ 0x01000100 ∷ []) (o 0 ∷ o 9 ∷ o 0 ∷ o 9 ∷ [])
     -- P8: two of her actions o, three c, four c
-    ∷ events (given 2 1 H (0 ∷ 1 ∷ [])) (0x01000100 ∷ 0x01000100 ∷ 0x01000100 ∷ 0x01000100 ∷ []) (o 0 ∷ o 0 ∷ c 0 ∷ c 0 ∷ [])
+    ∷ events (bare 2 1 H (0 ∷ 1 ∷ [])) (0x01000100 ∷ 0x01000100 ∷ 0x01000100 ∷ 0x01000100 ∷ []) (o 0 ∷ o 0 ∷ c 0 ∷ c 0 ∷ [])
     -- P9: apart(role 0, role 0), one user
-    ∷ events (given 1 1 (0x09000000 ∷ 0x02000000 ∷ 0x02000000 ∷ []) (1 ∷ [])) (0x01000000 ∷ 0x01000000 ∷ []) (o 0 ∷ o 9 ∷ [])
+    ∷ events (bare 1 1 (0x09000000 ∷ 0x02000000 ∷ 0x02000000 ∷ []) (1 ∷ [])) (0x01000000 ∷ 0x01000000 ∷ []) (o 0 ∷ o 9 ∷ [])
     -- P10: the normal form of F
     ∷ normal 3 3 F (0x08000000 ∷ 0x05000000 ∷ 0x01000000 ∷ 0x09000000 ∷ 0x02000000 ∷ 0x06000000 ∷ [])
     -- P11: both(everyone, everyone) is its own

@@ -1,4 +1,5 @@
 pub mod Runs
+pub mod Ordered
 pub mod Calls
 pub mod Accuracy
 pub mod EqualForms

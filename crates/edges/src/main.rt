@@ -1,6 +1,7 @@
 // The edges that documents 01 and 02 name, run through the calls: each line is what was asked and the number that it was answered.
 use monitor::Enabled;
 use monitor::Monitor;
+use monitor::Opened;
 use monitor::Status;
 use multiset::Verdict;
 use policy::Code;
@@ -144,9 +145,20 @@ fn say_mask(asked: &[u8], mask: u16) {
     io::write_all(1, &end);
 }
 
-// Opens a monitor, and says the code.
+// An opening with neither permissions nor workflow.
+fn open_bare(users: u8, roles: u8, words: &[u32], rows: &[u16]) -> Opened {
+    let permissions = [0u8; 1];
+    let workflow = [0u8; 1];
+    Monitor::open(users, roles, words, rows, &permissions[..0], &workflow[..0])
+}
+
+fn bare(users: u8, roles: u8, words: &[u32], rows: &[u16]) -> Monitor {
+    open_bare(users, roles, words, rows).monitor
+}
+
+// Opens a monitor so, and says the code.
 fn open(asked: &[u8], users: u8, roles: u8, words: &[u32], rows: &[u16]) {
-    let code = Monitor::open(users, roles, words, rows).code;
+    let code = open_bare(users, roles, words, rows).code;
     say_code(asked, code);
 }
 
@@ -163,8 +175,11 @@ fn users() {
     let plus = PLUS;
     open(b"16 users: ", 16, 1, &plus, &rows);
     let mut workspace = [0u32; 8192];
-    let opened = Monitor::open(16, 1, &plus, &rows).monitor;
-    say_enabled(b"16 users, who may act: ", opened.enabled(&mut workspace));
+    let opened = bare(16, 1, &plus, &rows);
+    say_enabled(
+        b"16 users, who may act: ",
+        opened.enabled(0, &mut workspace),
+    );
     let more = [1u16; 17];
     open(b"17 users: ", 17, 1, &plus, &more);
     let roles = [0xffffu16];
@@ -189,24 +204,24 @@ fn act(monitor: Monitor) -> Monitor {
 fn actions() {
     let rows = [1u16];
     let plus = PLUS;
-    let four = act(act(act(act(Monitor::open(1, 1, &plus, &rows).monitor))));
+    let four = act(act(act(act(bare(1, 1, &plus, &rows)))));
     let eight = act(act(act(act(four))));
     let full = act(act(act(act(act(eight)))));
     let instance = full.instance;
     say(b"taken: ", instance.taken);
     let mut workspace = [0u32; 8192];
     say_status(b"status: ", full.status(&mut workspace));
-    say_enabled(b"who may act: ", full.enabled(&mut workspace));
+    say_enabled(b"who may act: ", full.enabled(0, &mut workspace));
     let closed = full.event(0x0400_0000, &mut workspace).monitor;
-    say_enabled(b"closed, who may act: ", closed.enabled(&mut workspace));
-    let blank = Monitor::open(0, 1, &plus, &rows).monitor;
-    say_enabled(b"blank, who may act: ", blank.enabled(&mut workspace));
+    say_enabled(b"closed, who may act: ", closed.enabled(0, &mut workspace));
+    let blank = bare(0, 1, &plus, &rows);
+    say_enabled(b"blank, who may act: ", blank.enabled(0, &mut workspace));
 }
 
 fn workspaces() {
     let rows = [1u16];
     let plus = PLUS;
-    let opened = Monitor::open(1, 1, &plus, &rows).monitor;
+    let opened = bare(1, 1, &plus, &rows);
     let mut counts = [0u8; 16];
     counts[0] = 1;
     let mut short = [0u32; 8191];
@@ -215,7 +230,7 @@ fn workspaces() {
         opened.event(0x0100_0000, &mut short).code,
     );
     say_status(b"8191 words, status: ", opened.status(&mut short));
-    say_enabled(b"8191 words, who may act: ", opened.enabled(&mut short));
+    say_enabled(b"8191 words, who may act: ", opened.enabled(0, &mut short));
     say_verdict(
         b"8191 words, multiset: ",
         multiset::satisfies(1, 1, &plus, &rows, counts, &mut short),
@@ -226,7 +241,10 @@ fn workspaces() {
         opened.event(0x0100_0000, &mut workspace).code,
     );
     say_status(b"8192 words, status: ", opened.status(&mut workspace));
-    say_enabled(b"8192 words, who may act: ", opened.enabled(&mut workspace));
+    say_enabled(
+        b"8192 words, who may act: ",
+        opened.enabled(0, &mut workspace),
+    );
     say_verdict(
         b"8192 words, multiset: ",
         multiset::satisfies(1, 1, &plus, &rows, counts, &mut workspace),
@@ -344,7 +362,7 @@ fn no_place() {
 fn settled() {
     let words = [TOGETHER, ROLE_2, NOT, ROLE_2];
     let rows = [0u16; 3];
-    let opened = Monitor::open(3, 3, &words, &rows).monitor;
+    let opened = bare(3, 3, &words, &rows);
     let granted = event(b"P6, grant: ", opened, 0x0200_0102);
     let acted = event(b"P6, action: ", granted, 0x0100_0100);
     let left = event(b"P6, withdrawal: ", acted, 0x0300_0102);
@@ -360,15 +378,18 @@ fn unassigned() {
     let words = [NOT, USER_0];
     let rows = [1u16, 1];
     let mut workspace = [0u32; 8192];
-    let opened = Monitor::open(2, 1, &words, &rows).monitor;
-    say_enabled(b"not user 0, who may act: ", opened.enabled(&mut workspace));
+    let opened = bare(2, 1, &words, &rows);
+    say_enabled(
+        b"not user 0, who may act: ",
+        opened.enabled(0, &mut workspace),
+    );
     let first = event(b"user 0 leaves: ", opened, 0x0300_0000);
     event(b"user 0 without a role: ", first, 0x0100_0000);
     let both = event(b"user 1 leaves: ", first, 0x0300_0100);
     event(b"user 1 without a role: ", both, 0x0100_0100);
     say_enabled(
         b"both have left, who may act: ",
-        both.enabled(&mut workspace),
+        both.enabled(0, &mut workspace),
     );
 }
 
@@ -376,7 +397,7 @@ fn unassigned() {
 fn acted_before() {
     let words = [NOT, USER_0];
     let rows = [1u16, 1];
-    let opened = Monitor::open(2, 1, &words, &rows).monitor;
+    let opened = bare(2, 1, &words, &rows);
     let acted = event(b"user 1 before leaving: ", opened, 0x0100_0100);
     let left = event(b"user 1 leaves then: ", acted, 0x0300_0100);
     event(b"close: ", left, 0x0400_0000);
@@ -404,9 +425,286 @@ fn multisets() {
 fn not_twice() {
     let words = [NOT, NOT, ALL];
     let rows = [1u16, 0];
-    let opened = Monitor::open(2, 1, &words, &rows).monitor;
+    let opened = bare(2, 1, &words, &rows);
     event(b"not not everyone, with a role: ", opened, 0x0100_0000);
     event(b"not not everyone, without: ", opened, 0x0100_0100);
+}
+
+// Two states and 65 transitions: all actions in state 0, and one in state 1.
+const TRANSITIONS: [u8; 199] = [
+    2,
+    65,
+    1,
+    0,
+    0,
+    0,
+    0,
+    0,
+    1,
+    0,
+    0,
+    2,
+    0,
+    0,
+    3,
+    0,
+    0,
+    4,
+    0,
+    0,
+    5,
+    0,
+    0,
+    6,
+    0,
+    0,
+    7,
+    0,
+    0,
+    8,
+    0,
+    0,
+    9,
+    0,
+    0,
+    10,
+    0,
+    0,
+    11,
+    0,
+    0,
+    12,
+    0,
+    0,
+    13,
+    0,
+    0,
+    14,
+    0,
+    0,
+    15,
+    0,
+    0,
+    16,
+    0,
+    0,
+    17,
+    0,
+    0,
+    18,
+    0,
+    0,
+    19,
+    0,
+    0,
+    20,
+    0,
+    0,
+    21,
+    0,
+    0,
+    22,
+    0,
+    0,
+    23,
+    0,
+    0,
+    24,
+    0,
+    0,
+    25,
+    0,
+    0,
+    26,
+    0,
+    0,
+    27,
+    0,
+    0,
+    28,
+    0,
+    0,
+    29,
+    0,
+    0,
+    30,
+    0,
+    0,
+    31,
+    0,
+    0,
+    32,
+    0,
+    0,
+    33,
+    0,
+    0,
+    34,
+    0,
+    0,
+    35,
+    0,
+    0,
+    36,
+    0,
+    0,
+    37,
+    0,
+    0,
+    38,
+    0,
+    0,
+    39,
+    0,
+    0,
+    40,
+    0,
+    0,
+    41,
+    0,
+    0,
+    42,
+    0,
+    0,
+    43,
+    0,
+    0,
+    44,
+    0,
+    0,
+    45,
+    0,
+    0,
+    46,
+    0,
+    0,
+    47,
+    0,
+    0,
+    48,
+    0,
+    0,
+    49,
+    0,
+    0,
+    50,
+    0,
+    0,
+    51,
+    0,
+    0,
+    52,
+    0,
+    0,
+    53,
+    0,
+    0,
+    54,
+    0,
+    0,
+    55,
+    0,
+    0,
+    56,
+    0,
+    0,
+    57,
+    0,
+    0,
+    58,
+    0,
+    0,
+    59,
+    0,
+    0,
+    60,
+    0,
+    0,
+    61,
+    0,
+    0,
+    62,
+    0,
+    0,
+    63,
+    0,
+    1,
+    0,
+    0,
+];
+
+// Opens a monitor for one user, whose role gives every action, under a workflow; says the code.
+fn open_ordered(asked: &[u8], workflow: &[u8]) -> Monitor {
+    let plus = PLUS;
+    let rows = [1u16];
+    let permissions = [0xffu8; 8];
+    let opened = Monitor::open(1, 1, &plus, &rows, &permissions, workflow);
+    let code = opened.code;
+    say_code(asked, code);
+    opened.monitor
+}
+
+fn states() {
+    let most = [16u8, 1, 0, 128, 0, 1, 15];
+    let opened = open_ordered(b"16 states: ", &most);
+    let last = event(b"to state 15: ", opened, 0x0100_0001);
+    event(b"no transition: ", last, 0x0100_0001);
+    event(b"close in state 15: ", last, 0x0400_0000);
+    let more = [17u8, 1, 0, 128, 0, 1, 15];
+    open_ordered(b"17 states: ", &more);
+    let none = [0u8; 4];
+    open_ordered(b"no state: ", &none);
+    let one = [1u8, 0, 0, 0];
+    open_ordered(b"1 state, no transition: ", &one);
+}
+
+fn transitions() {
+    let mut bytes = TRANSITIONS;
+    open_ordered(b"65 transitions: ", &bytes);
+    bytes[1] = 64;
+    open_ordered(b"64 transitions: ", &bytes[..196]);
+    open_ordered(b"64 transitions, 3 bytes more: ", &bytes);
+}
+
+fn numbers() {
+    let mut bytes = [1u8, 1, 1, 0, 0, 63, 0];
+    let opened = open_ordered(b"action 63: ", &bytes);
+    event(b"action 63 taken: ", opened, 0x0100_003f);
+    event(b"action 64 tried: ", opened, 0x0100_0040);
+    let mut workspace = [0u32; 8192];
+    say_enabled(
+        b"action 63, who may act: ",
+        opened.enabled(63, &mut workspace),
+    );
+    say_enabled(
+        b"action 64, who may act: ",
+        opened.enabled(64, &mut workspace),
+    );
+    bytes[5] = 64;
+    open_ordered(b"action 64: ", &bytes);
+}
+
+// Opens a monitor for one user with these parts, and says the code.
+fn open_parts(asked: &[u8], permissions: &[u8], workflow: &[u8]) {
+    let plus = PLUS;
+    let rows = [1u16];
+    let code = Monitor::open(1, 1, &plus, &rows, permissions, workflow).code;
+    say_code(asked, code);
+}
+
+// One of the two alone, and permissions of seven bytes.
+fn lengths() {
+    let permissions = [1u8; 8];
+    let workflow = [1u8, 0, 1, 0];
+    open_parts(b"permissions alone: ", &permissions, &workflow[..0]);
+    open_parts(b"workflow alone: ", &permissions[..0], &workflow);
+    open_parts(b"both: ", &permissions, &workflow);
+    open_parts(
+        b"seven bytes of permissions: ",
+        &permissions[..7],
+        &workflow,
+    );
+    open_parts(b"workflow of three bytes: ", &permissions, &workflow[..3]);
 }
 
 fn main() {
@@ -423,4 +721,8 @@ fn main() {
     acted_before();
     multisets();
     not_twice();
+    states();
+    transitions();
+    numbers();
+    lengths();
 }

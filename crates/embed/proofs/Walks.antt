@@ -84,10 +84,10 @@ uint w = record {
 
 -- what an answer's relation says of its two fields
 pub code-fits : (r : Answer) → Is N.the-row r (LL.vals N.the-type N′.the-laws r) → r .code < 2 ^ 8
-code-fits r is = LL.owed N.the-type N′.the-laws r _ is .0 .1
+code-fits r is = LL.owed N.the-type N′.the-laws r _ is .1 .0 .1
 
 pub monitor-is : (r : Answer) → Is N.the-row r (LL.vals N.the-type N′.the-laws r) → Fits monitor (r .monitor)
-monitor-is r is = LL.owed N.the-type N′.the-laws r _ is .1 .0
+monitor-is r is = LL.owed N.the-type N′.the-laws r _ is .0
 
 -- ── a borrow ──
 -- an open `&mut` borrow, but for the cell

@@ -42,9 +42,9 @@ pub record LentOutcome : Type 0 where
   pub users : ℕ
   pub workspace : List ℕ
 
-unfoldable pub enabledLent : Monitor → ℕ → List ℕ → LentOutcome
-enabledLent m users before = record {
-  code = enabledNumber (enabledOf m before .answer);
-  users = usersLeft (enabledOf m before .answer) users;
-  workspace = enabledOf m before .workspace;
+unfoldable pub enabledLent : Monitor → ℕ → ℕ → List ℕ → LentOutcome
+enabledLent m a users before = record {
+  code = enabledNumber (enabledOf m a before .answer);
+  users = usersLeft (enabledOf m a before .answer) users;
+  workspace = enabledOf m a before .workspace;
 }

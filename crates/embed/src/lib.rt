@@ -4,7 +4,7 @@ ghost use mathlib.Core.Path.{_≡_};
 ghost use lib.ListN.{length};
 ghost use Rattle.policy.specs.Faults.{codeNumber};
 ghost use Rattle.normal.specs.NormalForms.{normalCode, normalAnswer, normalOut};
-ghost use Rattle.monitor.specs.Monitors.{given};
+ghost use Rattle.monitor.specs.Monitors.{given, bare};
 ghost use Rattle.monitor.specs.Events.{outcome};
 ghost use Rattle.monitor.specs.Statuses.{statusOf, statusNumber, letter};
 ghost use Rattle.multiset.specs.MultisetTest.{testOf, verdictCode, verdictLetter, Numbered};
@@ -17,11 +17,11 @@ use monitor::Status;
 use multiset::Verdict;
 use policy::Code;
 
-// The version, 0.4.0: major, minor and patch number, a byte each.
-const VERSION: u32 = 0x000400;
+// The version, 0.5.0: major, minor and patch number, a byte each.
+const VERSION: u32 = 0x000500;
 
 // The number of the layout of what is lent: another one whenever a field of it comes, goes, moves or means something else.
-const LAYOUT: u32 = 2;
+const LAYOUT: u32 = 3;
 
 // A status as one byte.
 fn status_byte(status: Status) -> u8
@@ -66,7 +66,8 @@ fn status_of(monitor: Monitor, workspace: &mut [u32]) -> u8
     status_byte(monitor.status(workspace))
 }
 
-// Opens a monitor where the caller keeps it; a refusal leaves the blank one there. A policy's fault, 1 to 4, has its place written.
+// Opens a monitor where the caller keeps it, with permissions and a workflow if they are not empty; a refusal leaves the blank one there. A
+// policy's fault, 1 to 4, has its place written.
 #[no_mangle]
 pub extern "C" fn oskhrein_open(
     monitor: &mut Monitor,
@@ -74,11 +75,13 @@ pub extern "C" fn oskhrein_open(
     roles: u8,
     words: &[u32],
     rows: &[u16],
+    permissions: &[u8],
+    workflow: &[u8],
     place: &mut u8,
 ) -> u8
-    ensures { λ r. ⌜ record { code = r; place = now (place .exit); monitor = now (monitor .exit) } ≡ openingLent (given users roles (now (words .entry)) (now (rows .entry))) (now (place .entry)) ⌝ }
+    ensures { λ r. ⌜ record { code = r; place = now (place .exit); monitor = now (monitor .exit) } ≡ openingLent (given users roles (now (words .entry)) (now (rows .entry)) (now (permissions .entry)) (now (workflow .entry))) (now (place .entry)) ⌝ }
 {
-    let opened = Monitor::open(users, roles, words, rows);
+    let opened = Monitor::open(users, roles, words, rows, permissions, workflow);
     *monitor = opened.monitor;
     let code = opened.code;
     lend(code, place)
@@ -112,10 +115,10 @@ struct UsersAnswer {
 }
 
 // Who may act on a monitor by value; a refusal leaves the users as they were.
-fn enabled_of(monitor: Monitor, users: u16, workspace: &mut [u32]) -> UsersAnswer
-    ensures { λ r. ⌜ record { code = r .code; users = r .users; workspace = now (workspace .exit) } ≡ enabledLent monitor users (now (workspace .entry)) ⌝ }
+fn enabled_of(monitor: Monitor, action: u8, users: u16, workspace: &mut [u32]) -> UsersAnswer
+    ensures { λ r. ⌜ record { code = r .code; users = r .users; workspace = now (workspace .exit) } ≡ enabledLent monitor action users (now (workspace .entry)) ⌝ }
 {
-    match monitor.enabled(workspace) {
+    match monitor.enabled(action, workspace) {
         Enabled::Users(mask) => UsersAnswer {
             code: 0,
             users: mask,
@@ -124,14 +127,20 @@ fn enabled_of(monitor: Monitor, users: u16, workspace: &mut [u32]) -> UsersAnswe
     }
 }
 
-// The users whose action would be accepted, bit u for user u. The monitor stays as it is, and after a refusal the users too.
+// The users whose action with this number would be accepted, bit u for user u. The monitor stays as it is, and after a refusal the users
+// too.
 #[no_mangle]
-pub extern "C" fn oskhrein_enabled(monitor: &Monitor, workspace: &mut [u32], users: &mut u16) -> u8
-    ensures { λ r. ⌜ record { code = r; users = now (users .exit); workspace = now (workspace .exit) } ≡ enabledLent (now (monitor .entry)) (now (users .entry)) (now (workspace .entry)) ⌝ }
+pub extern "C" fn oskhrein_enabled(
+    monitor: &Monitor,
+    action: u8,
+    workspace: &mut [u32],
+    users: &mut u16,
+) -> u8
+    ensures { λ r. ⌜ record { code = r; users = now (users .exit); workspace = now (workspace .exit) } ≡ enabledLent (now (monitor .entry)) action (now (users .entry)) (now (workspace .entry)) ⌝ }
 {
     let current = *monitor;
     let before = *users;
-    let answer = enabled_of(current, before, workspace);
+    let answer = enabled_of(current, action, before, workspace);
     *users = answer.users;
     answer.code
 }
@@ -147,7 +156,7 @@ pub extern "C" fn oskhrein_satisfies(
     workspace: &mut [u32],
     place: &mut u8,
 ) -> u8
-    ensures { λ r. ⌜ (r ≡ verdictByte (testOf (given users roles (now (words .entry)) (now (rows .entry))) (now (counts .entry)) (length (now (workspace .entry))))) × (now (place .exit) ≡ placeLeft (testOf (given users roles (now (words .entry)) (now (rows .entry))) (now (counts .entry)) (length (now (workspace .entry))) .code) (now (place .entry))) × Numbered (given users roles (now (words .entry)) (now (rows .entry))) (now (counts .entry)) (now (workspace .entry)) (now (workspace .exit)) ⌝ }
+    ensures { λ r. ⌜ (r ≡ verdictByte (testOf (bare users roles (now (words .entry)) (now (rows .entry))) (now (counts .entry)) (length (now (workspace .entry))))) × (now (place .exit) ≡ placeLeft (testOf (bare users roles (now (words .entry)) (now (rows .entry))) (now (counts .entry)) (length (now (workspace .entry))) .code) (now (place .entry))) × Numbered (bare users roles (now (words .entry)) (now (rows .entry))) (now (counts .entry)) (now (workspace .entry)) (now (workspace .exit)) ⌝ }
 {
     let verdict = multiset::satisfies(users, roles, words, rows, *counts, workspace);
     verdict_byte(verdict, place)

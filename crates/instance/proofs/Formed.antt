@@ -19,7 +19,7 @@ use Rattle.policy.proofs.Scanning.{length-range, counts-most}
 use Rattle.instance.specs.declared.Configuration.{Configuration}
 use Rattle.instance.specs.declared.Instance.{Instance}
 use Rattle.instance.specs.Configurations.{assignment, isZero, rowsOk, configurationOk}
-use Rattle.instance.specs.Instances.{policyOf, takenOf, isIdle, actionOk, isReadable, isTakenOk, isTidy, instanceOk}
+use Rattle.instance.specs.Instances.{policyOf, takenOf, isIdle, actionOk, isReadable, isTakenOk, isTidy, isPlaced, instanceOk}
 use Rattle.instance.specs.Laws.{OneEach, TakenMore}
 
 -- ── a policy that is read ──
@@ -55,6 +55,7 @@ pub record ConfigurationFormed (c : Configuration) : Type 0 where
   pub counts : So (countOk (c .users) && countOk (c .roles))
   pub rows-ok : So (rowsOk (c .users) (c .roles) (assignment c))
   pub rows-zero : So (all isZero (drop (c .users) (c .«user_roles»)))
+  pub permissions-zero : So (all isZero (drop (c .roles) (c .permissions)))
 
 module _ (c : Configuration) where
   abbrev counts-test : Bool
@@ -63,19 +64,28 @@ module _ (c : Configuration) where
   abbrev rows-test : Bool
   rows-test = rowsOk (c .users) (c .roles) (assignment c)
 
+  abbrev users-test : Bool
+  users-test = all isZero (drop (c .users) (c .«user_roles»))
+
+  abbrev roles-test : Bool
+  roles-test = all isZero (drop (c .roles) (c .permissions))
+
   abbrev zeros-test : Bool
-  zeros-test = all isZero (drop (c .users) (c .«user_roles»))
+  zeros-test = users-test && roles-test
 
   pub configuration-formed : So (configurationOk c) → ConfigurationFormed c
   unfolding configurationOk
   configuration-formed h =
       let (n, r) = and-split counts-test (rows-test && zeros-test) h in
       let (o, z) = and-split rows-test zeros-test r in
-      record { counts = n; rows-ok = o; rows-zero = z }
+      let (u, p) = and-split users-test roles-test z in
+      record { counts = n; rows-ok = o; rows-zero = u; permissions-zero = p }
 
   pub is-configuration-formed : ConfigurationFormed c → So (configurationOk c)
   unfolding configurationOk
-  is-configuration-formed f = and-join counts-test (rows-test && zeros-test) (f .counts) (and-join rows-test zeros-test (f .rows-ok) (f .rows-zero))
+  is-configuration-formed f =
+      and-join counts-test (rows-test && zeros-test) (f .counts)
+      (and-join rows-test zeros-test (f .rows-ok) (and-join users-test roles-test (f .rows-zero) (f .permissions-zero)))
 
   module _ (f : ConfigurationFormed c) where
     pub users-most : c .users ≤ 16
@@ -99,6 +109,7 @@ pub record InstanceFormed (c : Configuration) (i : Instance) : Type 0 where
   pub actions-ok : So (all (actionOk (c .users) (unitsOf (decode (policyOf i)))) (takenOf i))
   pub words-zero : So (all isZero (drop (i .words) (i .policy)))
   pub places-idle : So (all isIdle (drop (i .taken) (i .actions)))
+  pub placed : So (isPlaced c i)
 
 module _ (c : Configuration) (i : Instance) where
   abbrev read-test : Bool
@@ -116,10 +127,11 @@ module _ (c : Configuration) (i : Instance) where
   pub instance-formed : So (instanceOk c i) → InstanceFormed c i
   unfolding instanceOk
   instance-formed h =
-      let (p, r) = and-split (isReadable c i) (isTakenOk c i && isTidy i) h in
+      let (p, r) = and-split (isReadable c i) (isTakenOk c i && (isTidy i && isPlaced c i)) h in
       let (w, e) = and-split (leb (i .words) 31) read-test p in
-      let (t, d) = and-split (isTakenOk c i) (isTidy i) r in
+      let (t, q) = and-split (isTakenOk c i) (isTidy i && isPlaced c i) r in
       let (n, a) = and-split (leb (i .taken) 12) actions-test t in
+      let (d, s) = and-split (isTidy i) (isPlaced c i) q in
       let (x, z) = and-split words-test places-test d in
       record {
         words-most = leb-true (i .words) 31 w;
@@ -128,16 +140,17 @@ module _ (c : Configuration) (i : Instance) where
         actions-ok = a;
         words-zero = x;
         places-idle = z;
+        placed = s;
       }
 
   pub is-instance-formed : InstanceFormed c i → So (instanceOk c i)
   unfolding instanceOk
   is-instance-formed f =
-      and-join (isReadable c i) (isTakenOk c i && isTidy i)
+      and-join (isReadable c i) (isTakenOk c i && (isTidy i && isPlaced c i))
       (and-join (leb (i .words) 31) read-test (le-leb (i .words) 31 (f .words-most)) (eq-so (code (refusals (c .users) (c .roles) (policyOf i))) 0 (f .read)))
-      (and-join (isTakenOk c i) (isTidy i)
+      (and-join (isTakenOk c i) (isTidy i && isPlaced c i)
       (and-join (leb (i .taken) 12) actions-test (le-leb (i .taken) 12 (f .taken-most)) (f .actions-ok))
-      (and-join words-test places-test (f .words-zero) (f .places-idle)))
+      (and-join (isTidy i) (isPlaced c i) (and-join words-test places-test (f .words-zero) (f .places-idle)) (f .placed)))
 
   formed-clear : InstanceFormed c i → Clear (refusals (c .users) (c .roles) (policyOf i))
   formed-clear f = clear (refusals (c .users) (c .roles) (policyOf i)) refl (f .read)
@@ -147,4 +160,4 @@ module _ (c : Configuration) (i : Instance) where
 
 -- one more action
 pub taken-more : TakenMore
-taken-more i a h = rw (add-one, take-suc-set (i .actions) (i .taken) a)
+taken-more i a s h = rw (add-one, take-suc-set (i .actions) (i .taken) a)

@@ -1,4 +1,4 @@
--- The configuration (document 004, Definition 1): the counts, and who holds which roles.
+-- The configuration (document 004, Definition 1): the counts, who holds which roles, and which roles give which actions.
 use mathlib.Core.Bool.{Bool, not, _&&_, cond}
 use mathlib.Core.List.{List, [], _∷_}
 use Prim.Native.Nat.{ℕ, _^_}
@@ -24,11 +24,14 @@ held c u = roles (c .«user_roles») u
 -- ── as it starts ──
 -- all zero
 abbrev pub noConfiguration : Configuration
-noConfiguration = record { «user_roles» = replicate 16 0; users = 0; roles = 0 }
+noConfiguration = record { permissions = replicate 16 0; «user_roles» = replicate 16 0; users = 0; roles = 0 }
 
--- as an opening is given it; rows past the users are zero
+-- as an opening is given it, without permissions; rows past the users are zero
 abbrev pub configurationOf : ℕ → ℕ → List ℕ → Configuration
-configurationOf users roles rows = record { «user_roles» = padded 16 rows; users = users; roles = roles }
+configurationOf users roles rows = record { permissions = replicate 16 0; «user_roles» = padded 16 rows; users = users; roles = roles }
+
+abbrev pub withPermissions : Configuration → List ℕ → Configuration
+withPermissions c permissions = record { permissions = permissions; «user_roles» = c .«user_roles»; users = c .users; roles = c .roles }
 
 -- grant rows are one a user, and name only declared roles (01, number 6)
 abbrev pub rowsOk : ℕ → ℕ → List ℕ → Bool
@@ -51,7 +54,7 @@ givenConfiguration users roles rows = configuredAs (code (configurationRefusals 
 
 -- ── a grant or revocation alters one bit ──
 abbrev pub withRow : Configuration → ℕ → ℕ → Configuration
-withRow c u h = record { «user_roles» = put (c .«user_roles») u h; users = c .users; roles = c .roles }
+withRow c u h = record { permissions = c .permissions; «user_roles» = put (c .«user_roles») u h; users = c .users; roles = c .roles }
 
 abbrev pub withGrant : Configuration → ℕ → ℕ → Configuration
 withGrant c u r = withRow c u (setBit r (held c u))
@@ -63,8 +66,9 @@ withoutGrant c u r = withRow c u (clearBit r (held c u))
 abbrev pub isZero : ℕ → Bool
 isZero n = eqb n 0
 
--- its counts and grants would be accepted, and every unused row is zero
+-- its counts and grants would be accepted, and every unused row is zero, of users and of permissions
 unfoldable pub configurationOk : Configuration → Bool
 configurationOk c =
     (countOk (c .users) && countOk (c .roles))
-    && (rowsOk (c .users) (c .roles) (assignment c) && all isZero (drop (c .users) (c .«user_roles»)))
+    && (rowsOk (c .users) (c .roles) (assignment c)
+    && (all isZero (drop (c .users) (c .«user_roles»)) && all isZero (drop (c .roles) (c .permissions))))

@@ -1,4 +1,4 @@
--- The instance: a policy, the actions taken under it and the closed mark, over a configuration.
+-- The instance: a policy, a workflow and its present state, the actions taken under them and the closed mark, over a configuration.
 use mathlib.Core.Bool.{Bool, not, _&&_, cond}
 use mathlib.Core.List.{List, []}
 use Prim.Native.Nat.{ℕ, _+_}
@@ -12,6 +12,8 @@ use Rattle.policy.specs.Refusals.{code}
 use Rattle.policy.specs.Words.{decode, termOf}
 use Rattle.policy.specs.Reading.{refusals, unitsOf}
 use Rattle.units.specs.Units.{metOf}
+use Rattle.workflow.specs.declared.Workflow.{Workflow}
+use Rattle.workflow.specs.Workflows.{noWorkflow, isGiven, workflowOk}
 use Rattle.instance.specs.declared.Configuration.{Configuration}
 use Rattle.instance.specs.declared.Instance.{Instance}
 use Rattle.instance.specs.declared.Check.{Check}
@@ -27,6 +29,10 @@ takenOf i = take (i .taken) (i .actions)
 abbrev pub term : Instance → Term
 term i = termOf (decode (policyOf i))
 
+-- a workflow is given, and with it permissions
+abbrev pub hasWorkflow : Instance → Bool
+hasWorkflow i = isGiven (i .workflow)
+
 -- the mark is a byte: 0 is open, every other value closed
 abbrev pub isClosed : Instance → Bool
 isClosed i = not (eqb (i .closed) 0)
@@ -37,11 +43,12 @@ noAction = record { user = 0; met = 0 }
 
 -- all zero
 abbrev pub noInstance : Instance
-noInstance = record { policy = replicate 31 0; actions = replicate 12 noAction; words = 0; taken = 0; closed = 0 }
+noInstance = record { policy = replicate 31 0; actions = replicate 12 noAction; workflow = noWorkflow; words = 0; taken = 0; closed = 0; state = 0 }
 
--- under these words: no action, and not closed; policy words past its length are zero
-abbrev pub instanceOf : List ℕ → Instance
-instanceOf words = record { policy = padded 31 words; actions = replicate 12 noAction; words = length words; taken = 0; closed = 0 }
+-- under these words and this workflow, in state 0: no action, and not closed; policy words past its length are zero
+abbrev pub instanceOf : List ℕ → Workflow → Instance
+instanceOf words w =
+    record { policy = padded 31 words; actions = replicate 12 noAction; workflow = w; words = length words; taken = 0; closed = 0; state = 0 }
 
 -- ── what is noted ──
 -- of an action by user u, who holds these roles: bit i for the unit term at word i
@@ -53,13 +60,29 @@ abbrev pub notedFor : Configuration → Instance → ℕ → Action
 notedFor c i u = noted (policyOf i) u (held c u)
 
 -- ── what an accepted event alters: its own part alone ──
--- an action the next place and their number
-abbrev pub withAction : Instance → Action → Instance
-withAction i a = record { policy = i .policy; actions = put (i .actions) (i .taken) a; words = i .words; taken = i .taken + 1; closed = i .closed }
+-- an action the next place, their number and the present state s
+abbrev pub withAction : Instance → Action → ℕ → Instance
+withAction i a s = record {
+  policy = i .policy;
+  actions = put (i .actions) (i .taken) a;
+  workflow = i .workflow;
+  words = i .words;
+  taken = i .taken + 1;
+  closed = i .closed;
+  state = s;
+}
 
 -- a close the mark
 abbrev pub asClosed : Instance → Instance
-asClosed i = record { policy = i .policy; actions = i .actions; words = i .words; taken = i .taken; closed = 1 }
+asClosed i = record {
+  policy = i .policy;
+  actions = i .actions;
+  workflow = i .workflow;
+  words = i .words;
+  taken = i .taken;
+  closed = 1;
+  state = i .state;
+}
 
 -- ── its part of number 15 ──
 abbrev pub isIdle : Action → Bool
@@ -81,8 +104,14 @@ isTakenOk c i = leb (i .taken) 12 && all (actionOk (c .users) (unitsOf (decode (
 abbrev pub isTidy : Instance → Bool
 isTidy i = all isZero (drop (i .words) (i .policy)) && all isIdle (drop (i .taken) (i .actions))
 
+-- its workflow is well formed and in a state that it has; without a workflow, its state and the permissions are zero
+abbrev pub isPlaced : Configuration → Instance → Bool
+isPlaced c i =
+    workflowOk (i .workflow)
+    && cond (hasWorkflow i) (ltb (i .state) (i .workflow .states)) (isZero (i .state) && all isZero (c .permissions))
+
 unfoldable pub instanceOk : Configuration → Instance → Bool
-instanceOk c i = isReadable c i && (isTakenOk c i && isTidy i)
+instanceOk c i = isReadable c i && (isTakenOk c i && (isTidy i && isPlaced c i))
 
 -- whether it is so, and then what user u meets
 abbrev pub checkIn : Bool → ℕ → Check

@@ -1,4 +1,6 @@
 pub mod Configurations
 pub mod Instances
+pub mod Steps
+pub mod Candidates
 -- What is proved of them.
 pub mod Laws

@@ -3,7 +3,7 @@ ghost use mathlib.Core.Path.{_≡_};
 ghost use mathlib.Core.Bool.{cond};
 ghost use lib.Dec.{ltb};
 ghost use Rattle.units.specs.Units.{surveyOf};
-ghost use Rattle.instance.specs.Configurations.{held, noConfiguration, givenConfiguration, withRow, withGrant, withoutGrant, configurationOk};
+ghost use Rattle.instance.specs.Configurations.{held, noConfiguration, givenConfiguration, withPermissions, withRow, withGrant, withoutGrant, configurationOk};
 use super::Configuration;
 use super::Configured;
 use super::lists::count_ok;
@@ -12,6 +12,7 @@ use super::lists::padded_rows;
 use super::lists::rows_ok;
 use super::lists::with_role;
 use super::lists::without_role;
+use super::lists::zero_permissions;
 use super::lists::zero_rows;
 use policy::codes;
 use units::Survey;
@@ -29,30 +30,41 @@ fn refused(code: u8) -> Configured
 impl Configuration {
     // All zero.
     pub const BLANK: Self = Configuration {
+        permissions: [0; 16],
         user_roles: [0; 16],
         users: 0,
         roles: 0,
     };
 
-    // The counts and the rows of an opening: 0 and the configuration, or 5 or 6 and all zero.
+    // The counts and the rows of an opening: 0 and the configuration, without permissions, or 5 or 6 and all zero.
     pub fn open(users: u8, roles: u8, rows: &[u16]) -> Configured
         ensures { λ r. ⌜ r ≡ givenConfiguration users roles (now (rows .entry)) ⌝ }
     {
-        if !counts_ok(users as u16, roles as u16) {
+        if !counts_ok(users as u32, roles as u32) {
             return refused(codes::COUNTS);
         }
-        if !rows_ok(users as u16, roles as u16, rows) {
+        if !rows_ok(users as u32, roles as u32, rows) {
             return refused(codes::ROWS);
         }
         let user_roles = padded_rows(rows);
         Configured {
             code: codes::ACCEPTED,
             configuration: Configuration {
+                permissions: [0; 16],
                 user_roles,
-                users: users as u16,
-                roles: roles as u16,
+                users: users as u32,
+                roles: roles as u32,
             },
         }
+    }
+
+    // With these permissions.
+    pub fn with_permissions(self, permissions: [u64; 16]) -> Self
+        ensures { λ r. ⌜ r ≡ withPermissions self permissions ⌝ }
+    {
+        let mut next = self;
+        next.permissions = permissions;
+        next
     }
 
     // The roles that a user holds; none for a user without a row.
@@ -110,7 +122,11 @@ impl Configuration {
         if !rows_ok(self.users, self.roles, &rows[..users]) {
             return false;
         }
-        zero_rows(rows, users)
+        if !zero_rows(rows, users) {
+            return false;
+        }
+        let permissions = self.permissions;
+        zero_permissions(permissions, self.roles as usize)
     }
 
     // What a user meets of a policy, and whether the policy is accepted with these counts.

@@ -5,13 +5,15 @@ ghost use Prim.Native.Nat.{_≤_};
 ghost use lib.Dec.{leb, ltb};
 ghost use lib.ListN.{length, take, drop};
 ghost use Rattle.soda.specs.Lists.{all};
-ghost use Rattle.instance.specs.Instances.{takenOf, isClosed, noInstance, instanceOf, withAction, asClosed, isIdle, actionOk, isTidy, checkOf};
+ghost use Rattle.instance.specs.Instances.{takenOf, isClosed, noInstance, instanceOf, withAction, asClosed, isIdle, actionOk, isTidy, isPlaced, checkOf};
 use super::Check;
 use super::Configuration;
 use super::Instance;
 use super::lists::padded_words;
+use super::lists::zero_permissions;
 use super::lists::zero_words;
 use soda::Action;
+use workflow::Workflow;
 
 // The mark of an instance that is open, and the one that a close sets; every other value is closed too.
 const OPEN: u8 = 0;
@@ -34,15 +36,15 @@ fn is_idle(a: Action) -> bool
 }
 
 // Whether a taken action is by a declared user, and has bits at words that begin unit terms only.
-fn action_ok(users: u16, units: u32, a: Action) -> bool
+fn action_ok(users: u32, units: u32, a: Action) -> bool
     ensures { λ r. ⌜ r ≡ actionOk users units a ⌝ }
 {
     let met = a.met;
-    (a.user < users as u32) & (met & units == met)
+    (a.user < users) & (met & units == met)
 }
 
 // Whether each taken action is so.
-fn actions_ok(users: u16, units: u32, actions: [Action; 12], taken: usize) -> bool
+fn actions_ok(users: u32, units: u32, actions: [Action; 12], taken: usize) -> bool
     requires { ⌜ taken ≤ 12 ⌝ }
     ensures { λ r. ⌜ r ≡ all (actionOk users units) (take taken actions) ⌝ }
 {
@@ -75,14 +77,17 @@ impl Instance {
     pub const BLANK: Self = Instance {
         policy: [0; 31],
         actions: [Action { user: 0, met: 0 }; 12],
+        workflow: Workflow::BLANK,
         words: 0,
         taken: 0,
         closed: 0,
+        state: 0,
     };
 
-    // An instance under a policy of these words: no action, not closed. All zero for more words than a policy has.
-    pub fn under(words: &[u32]) -> Self
-        ensures { λ r. ⌜ r ≡ cond (leb (length (now (words .entry))) 31) (instanceOf (now (words .entry))) noInstance ⌝ }
+    // An instance under a policy of these words and a workflow, which is in its first state: no action, not closed. All zero for more words
+    // than a policy has.
+    pub fn under(words: &[u32], workflow: Workflow) -> Self
+        ensures { λ r. ⌜ r ≡ cond (leb (length (now (words .entry))) 31) (instanceOf (now (words .entry)) workflow) noInstance ⌝ }
     {
         if 31 < words.len() {
             return Instance::BLANK;
@@ -91,9 +96,11 @@ impl Instance {
         Instance {
             policy,
             actions: [Action { user: 0, met: 0 }; 12],
+            workflow,
             words: words.len() as u16,
             taken: 0,
             closed: OPEN,
+            state: 0,
         }
     }
 
@@ -104,9 +111,9 @@ impl Instance {
         self.closed != OPEN
     }
 
-    // The next place holds the action, and there is one more. The thirteenth alters nothing.
-    pub fn with_action(self, action: Action) -> Self
-        ensures { λ r. ⌜ r ≡ cond (ltb (self .taken) 12) (withAction self action) self ⌝ }
+    // The next place holds the action, there is one more, and the workflow is in this state. The thirteenth alters nothing.
+    pub fn with_action(self, action: Action, state: u8) -> Self
+        ensures { λ r. ⌜ r ≡ cond (ltb (self .taken) 12) (withAction self action state) self ⌝ }
     {
         let at = self.taken;
         if 12 <= at {
@@ -115,6 +122,7 @@ impl Instance {
         let mut next = self;
         next.actions[at as usize] = action;
         next.taken = at + 1;
+        next.state = state as u32;
         next
     }
 
@@ -128,7 +136,7 @@ impl Instance {
     }
 
     // Whether at most twelve actions are taken, each as it must be.
-    fn is_taken_ok(self, users: u16, units: u32) -> bool
+    fn is_taken_ok(self, users: u32, units: u32) -> bool
         ensures { λ r. ⌜ r ≡ (leb (self .taken) 12 && all (actionOk users units) (takenOf self)) ⌝ }
     {
         if 12 < self.taken {
@@ -150,7 +158,26 @@ impl Instance {
         idle_actions(actions, self.taken as usize)
     }
 
-    // Whether the policy would be accepted, the taken actions are as they must be, and what is unused is zero; and what a user meets.
+    // Whether the workflow is well formed and in a state that it has; without a workflow, its state and the permissions are zero.
+    fn is_placed(self, configuration: Configuration) -> bool
+        ensures { λ r. ⌜ r ≡ isPlaced configuration self ⌝ }
+    {
+        let workflow = self.workflow;
+        if !workflow.is_well_formed() {
+            return false;
+        }
+        if workflow.is_given() {
+            return self.state < workflow.states as u32;
+        }
+        if self.state != 0 {
+            return false;
+        }
+        let permissions = configuration.permissions;
+        zero_permissions(permissions, 0)
+    }
+
+    // Whether the policy would be accepted, the taken actions and the workflow are as they must be, and what is unused is zero; and what a
+    // user meets.
     pub fn check(self, configuration: Configuration, user: u8) -> Check
         ensures { λ r. ⌜ r ≡ checkOf configuration self user ⌝ }
     {
@@ -167,6 +194,9 @@ impl Instance {
             return Check::FAILED;
         }
         if !self.is_tidy() {
+            return Check::FAILED;
+        }
+        if !self.is_placed(configuration) {
             return Check::FAILED;
         }
         Check {

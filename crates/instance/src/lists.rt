@@ -25,21 +25,21 @@ pub(crate) fn without_role(row: u16, role: u8) -> u16
 }
 
 // Whether users or roles may be so many.
-pub(crate) fn count_ok(n: u16) -> bool
+pub(crate) fn count_ok(n: u32) -> bool
     ensures { λ r. ⌜ r ≡ countOk n ⌝ }
 {
     (1 <= n) & (n <= 16)
 }
 
 // Whether users and roles may be so many.
-pub(crate) fn counts_ok(users: u16, roles: u16) -> bool
+pub(crate) fn counts_ok(users: u32, roles: u32) -> bool
     ensures { λ r. ⌜ r ≡ (countOk users && countOk roles) ⌝ }
 {
     count_ok(users) & count_ok(roles)
 }
 
 // Whether there is one row a user, and each names declared roles only.
-pub(crate) fn rows_ok(users: u16, roles: u16, rows: &[u16]) -> bool
+pub(crate) fn rows_ok(users: u32, roles: u32, rows: &[u16]) -> bool
     requires { ⌜ roles ≤ 16 ⌝ }
     ensures { λ r. ⌜ r ≡ rowsOk users roles (now (rows .entry)) ⌝ }
 {
@@ -106,6 +106,20 @@ pub(crate) fn zero_rows(rows: [u16; 16], from: usize) -> bool
     let mut i = from;
     while i < 16 {
         if rows[i] != 0 {
+            return false;
+        }
+        i += 1;
+    }
+    true
+}
+
+// Whether the permissions from a place on are zero.
+pub(crate) fn zero_permissions(permissions: [u64; 16], from: usize) -> bool
+    ensures { λ r. ⌜ r ≡ all isZero (drop from permissions) ⌝ }
+{
+    let mut i = from;
+    while i < 16 {
+        if permissions[i] != 0 {
             return false;
         }
         i += 1;

@@ -19,6 +19,7 @@ use Rattle.monitor.specs.declared.Event.{Event}
 use Rattle.monitor.specs.declared.Event.the-variants.{Acts, Grants, Revokes, Closes, Malformed}
 use Rattle.instance.specs.Configurations.{held, withRow, withGrant, withoutGrant}
 use Rattle.instance.specs.Instances.{noAction, notedFor, withAction, asClosed}
+use Rattle.instance.specs.Steps.{leadsTo, stateOf}
 use Rattle.monitor.specs.Events.{eventIn, ownRefusals, applied, eventCode, outcome}
 use Rattle.monitor.specs.Laws.{Passed}
 use Rattle.monitor.specs.Effects.{ActionAlone, BitAlone, MarkAlone, OwnPart, AcceptedAltersItsPart, HeldAltersNothing, RefusalAltersNothing}
@@ -29,9 +30,11 @@ use Rattle.monitor.proofs.Reading.{declared, entered}
 use Rattle.monitor.proofs.Order.{accepted-has-passed, workspace-kept}
 
 module _ (i : Instance) where
-  action-alone : (a : Action) → i .taken < length (i .actions) → ActionAlone i a (withAction i a)
-  action-alone a h = record {
+  action-alone : (a : Action) (s : ℕ) → i .taken < length (i .actions) → ActionAlone i a s (withAction i a s)
+  action-alone a s h = record {
     same-policy = refl;
+    same-workflow = refl;
+    moved = refl;
     same-mark = refl;
     one-more = refl;
     here = getD-set-same (i .actions) (i .taken) a noAction h;
@@ -39,13 +42,14 @@ module _ (i : Instance) where
   }
 
   mark-alone : MarkAlone i (asClosed i)
-  mark-alone = record { same-policy = refl; same-actions = refl; same-number = refl; here = refl }
+  mark-alone = record { same-policy = refl; same-workflow = refl; same-state = refl; same-actions = refl; same-number = refl; here = refl }
 
 module _ (c : Configuration) where
   -- a row that differs from the one before in bit r alone
   row-alone : (u r h : ℕ) (b : Bool) → u < length (c .«user_roles»)
       → ((s : ℕ) → bit s h ≡ cond (eqb s r) b (assigned (c .«user_roles») u s)) → BitAlone c u r b (withRow c u h)
   row-alone u r h b within new = record {
+    same-permissions = refl;
     same-users = refl;
     same-roles = refl;
     here = at r ∙ rw (eq-so r r refl);
@@ -94,7 +98,7 @@ accepted-alters-its-part m w before n z =
     go : (e : Event) → Passed m e (length before) → Entered (m .configuration) e → OwnPart m e (applied m e)
     go (Acts u a) p d =
         let k = clear (ownRefusals (m .configuration) (m .instance) (Acts u a)) refl (p .own) in
-        (refl, action-alone (m .instance) (notedFor (m .configuration) (m .instance) u) (omega (arith, leb-false 12 (m .instance .taken) (k .0))))
+        (refl, action-alone (m .instance) (notedFor (m .configuration) (m .instance) u) (stateOf (leadsTo (m .instance) a)) (omega (arith, leb-false 12 (m .instance .taken) (k .1 .1 .0))))
     go (Grants u r) p d = (refl, grant-alone (m .configuration) u r (omega (arith, d .0, users-within (m .configuration) (formed m (p .is-well) .in-configuration))))
     go (Revokes u r) p d = (refl, revoke-alone (m .configuration) u r (omega (arith, d .0, users-within (m .configuration) (formed m (p .is-well) .in-configuration))))
     go Closes p d = (refl, mark-alone (m .instance))

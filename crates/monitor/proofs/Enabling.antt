@@ -1,21 +1,23 @@
 -- Who may act: what an action's word is read as, what the trials give, and what follows for the mask.
 use mathlib.Core.Path.{_≡_, refl, sym, _∙_, ap, ap₂, subst}
 use mathlib.Core.Logic.{_≢_, _⊎_, inl, inr}
-use mathlib.Core.Bool.{Bool, true, false, So, _&&_, cond, and-true, true≢false}
+use mathlib.Core.Bool.{Bool, true, false, So, not, _&&_, _||_, cond, and-true, true≢false}
 use mathlib.Core.List.{List, [], _∷_, _++_, map}
 use Prim.Native.Nat.{ℕ, zero, suc, _-_, _/_, _%_, _^_, _≤_, _<_}
 use native.Mathlib.Omega.{arith}
-use lib.Dec.{leb, ltb, eqb}
+use lib.Bits.{bitAnd, and-zero-l}
+use lib.Dec.{leb, ltb, eqb, eqb·suc-zero}
 use lib.ListN.{length, getD, take, length-map, List·getD-eq-default}
 use lib.Seq.{getD-take, length-take-le}
-use borrow.Author.Tests.{le-leb, leb-true, lt-leb, lt-ltb, le-ltb, ltb-false, ne-eqb}
+use borrow.Author.Tests.{le-leb, leb-true, leb-false, lt-leb, lt-ltb, le-ltb, ltb-false, ne-eqb}
 use Rattle.soda.specs.Bits.{bit, number}
 use Rattle.soda.specs.Lists.{range}
 use Rattle.soda.specs.Tables.{possible}
-use Rattle.soda.proofs.Bools.{by-test, so-lt, so-eq, eq-so, lt-or-le}
+use Rattle.soda.specs.Workflows.{isSomewhere}
+use Rattle.soda.proofs.Bools.{by-test, and-split, so-lt, so-eq, eq-so, lt-or-le}
 use Rattle.soda.proofs.Bits.{bit-number}
 use Rattle.soda.proofs.Lists.{range-length, map-below, map-same}
-use Rattle.policy.specs.Codes.{CLOSED}
+use Rattle.policy.specs.Codes.{FULL, NOT-POSSIBLE, CLOSED, NOT-AUTHORIZED, NO-TRANSITION}
 use Rattle.policy.specs.Refusals.{code}
 use Rattle.units.specs.Units.{metOf, metEach}
 use Rattle.units.proofs.Units.{each-is-met}
@@ -23,16 +25,19 @@ use Rattle.workspace.specs.Workspace.{isFilled, filled}
 use Rattle.workspace.specs.Trials.{actionBy, canAct, Trials, trialsOf}
 use Rattle.instance.specs.declared.Configuration.{Configuration}
 use Rattle.instance.specs.declared.Instance.{Instance}
-use Rattle.instance.specs.Configurations.{assignment}
+use Rattle.instance.specs.declared.Candidates.{Candidates}
 use Rattle.instance.specs.Instances.{policyOf, takenOf, term, isClosed, notedFor}
-use Rattle.instance.proofs.Formed.{users-most, users-least}
+use Rattle.instance.specs.Steps.{isAuthorized, leadsTo}
+use Rattle.instance.specs.Candidates.{behindLast, isCandidate, candidatesOf}
+use Rattle.instance.proofs.Formed.{users-most}
+use Rattle.instance.proofs.Gathering.{behind-most, before-last, is-last, number-short, behind-short, number-and}
 use Rattle.monitor.specs.declared.Monitor.{Monitor}
 use Rattle.monitor.specs.declared.Event.{Event}
 use Rattle.monitor.specs.declared.Event.the-variants.{Acts, Malformed}
 use Rattle.monitor.specs.declared.Enabled.the-variants.{Users, Refused}
 use Rattle.monitor.specs.Monitors.{admission}
-use Rattle.monitor.specs.Events.{readEvent, eventIn, isMalformed, tried, ownRefusals, applied, eventRefusals, eventCode, entry, workspaceAfter, Outcome, outcome}
-use Rattle.monitor.specs.Enabled.{actionWord, mayAct, enabledMask, enabledOf, ActionNumberPlaysNoPart, BitIsAction, NoOtherBit, ClosedOrFullIsNobody, RefusalKeepsMask}
+use Rattle.monitor.specs.Events.{readEvent, eventIn, isMalformed, tried, eventCode, entry, workspaceAfter, Outcome, outcome}
+use Rattle.monitor.specs.Enabled.{actionWord, mayAct, enabledMask, getsTrial, behindTrials, leftBy, enabledOf, BitIsAction, NoOtherBit, ClosedOrFullIsNobody, RefusalKeepsMask}
 use Rattle.monitor.specs.Private.{eachTried, monitorOutcome}
 use Rattle.monitor.proofs.Formed.{formed}
 use Rattle.monitor.proofs.Order.{admits, accepted-has-passed, not-admitted, not-entered, performed}
@@ -56,90 +61,197 @@ module _ (u a : ℕ) (h : u < 256) (k : a < 256) where
   unfolding readEvent
   read-action users roles = rw (no-high, its-kind, its-user, its-number)
 
--- what does not look at the action's number
-alike : {X : Type 0} (m : Monitor) (u a : ℕ) → u < 256 → a < 256 → (f : Event → X) → f (Acts u a) ≡ f (Acts u 0)
-    → f (eventIn m (actionWord u a)) ≡ f (eventIn m (actionWord u 0))
-alike m u a h k f e =
-    ap f (read-action u a h k (m .configuration .users) (m .configuration .roles)) ∙ by (ltb u (m .configuration .users))
-    ∙ sym (ap f (read-action u 0 h (omega arith) (m .configuration .users) (m .configuration .roles)))
-  where
-    by : (b : Bool) → f (cond b (Acts u a) Malformed) ≡ f (cond b (Acts u 0) Malformed)
-    by true = e
-    by false = refl
-
-same-code : (m : Monitor) (n u a : ℕ) → u < 256 → a < 256 → eventCode m (actionWord u a) n ≡ eventCode m (actionWord u 0) n
-unfolding eventRefusals
-same-code m n u a h k = alike m u a h k (λ e. code (eventRefusals m e n)) refl
-
-pub action-number-plays-no-part : ActionNumberPlaysNoPart
-unfolding outcome eventRefusals
-action-number-plays-no-part m u a before h k = alike m u a h k given refl
-  where
-    given : Event → Outcome
-    given e = record {
-      code = code (eventRefusals m e (length before));
-      monitor = cond (eqb (code (eventRefusals m e (length before))) 0) (applied m e) m;
-      workspace = workspaceAfter (m .configuration) (m .instance) e (code (eventRefusals m e (length before))) before;
-    }
-
 -- ── the trials ──
--- what is noted for a user, as the trials are given it
-module _ (c : Configuration) (i : Instance) (few : c .users ≤ 16) (within : c .users ≤ length (c .«user_roles»)) (each : List ℕ) (long : c .users ≤ length each)
-    (is : each ≡ metEach (policyOf i) (assignment c)) where
-  rows-length : length (assignment c) ≡ c .users
-  rows-length = length-take-le (c .users) (c .«user_roles») within
+-- of the first k users: what is noted for a user, as the trials are given it
+module _ (c : Configuration) (i : Instance) (k : ℕ) (few : k ≤ 16) (within : k ≤ length (c .«user_roles»)) (each : List ℕ) (long : k ≤ length each)
+    (is : each ≡ metEach (policyOf i) (take k (c .«user_roles»))) where
+  rows-length : length (take k (c .«user_roles»)) ≡ k
+  rows-length = length-take-le k (c .«user_roles») within
 
-  mets-length : length (take (c .users) each) ≡ c .users
-  mets-length = length-take-le (c .users) each long
+  mets-length : length (take k each) ≡ k
+  mets-length = length-take-le k each long
 
-  noted-by : (u : ℕ) → u < c .users → actionBy (take (c .users) each) u ≡ notedFor c i u
+  noted-by : (u : ℕ) → u < k → actionBy (take k each) u ≡ notedFor c i u
   noted-by u h = ap (λ n. record { user = u; met = n })
-      (getD-take (c .users) each u 0 h ∙ ap (λ l. getD l u 0) is
-      ∙ each-is-met (policyOf i) (assignment c) u (omega (arith, rows-length)) (omega (arith, rows-length))
-      ∙ ap (metOf (policyOf i) u) (getD-take (c .users) (c .«user_roles») u 0 h))
+      (getD-take k each u 0 h ∙ ap (λ l. getD l u 0) is
+      ∙ each-is-met (policyOf i) (take k (c .«user_roles»)) u (omega (arith, rows-length)) (omega (arith, rows-length))
+      ∙ ap (metOf (policyOf i) u) (getD-take k (c .«user_roles») u 0 h))
 
-  can-act-is : canAct (term i) (takenOf i) (take (c .users) each) ≡ number (map (λ u. possible (term i) 0 (tried c i u)) (range 0 (c .users)))
+  can-act-is : canAct (term i) (takenOf i) (take k each) ≡ number (map (λ u. possible (term i) 0 (tried c i u)) (range 0 k))
   unfolding canAct
   can-act-is =
-      ap (λ n. number (map (λ u. possible (term i) 0 (takenOf i ++ (actionBy (take (c .users) each) u ∷ []))) (range 0 n))) mets-length
-      ∙ ap number (map-same false (c .users) (λ u. possible (term i) 0 (takenOf i ++ (actionBy (take (c .users) each) u ∷ []))) (λ u. possible (term i) 0 (tried c i u))
+      ap (λ n. number (map (λ u. possible (term i) 0 (takenOf i ++ (actionBy (take k each) u ∷ []))) (range 0 n))) mets-length
+      ∙ ap number (map-same false k (λ u. possible (term i) 0 (takenOf i ++ (actionBy (take k each) u ∷ []))) (λ u. possible (term i) 0 (tried c i u))
       (λ u h. ap (λ a. possible (term i) 0 (takenOf i ++ (a ∷ []))) (noted-by u h)))
 
-  module _ (before : List ℕ) (fills : So (isFilled (policyOf i) (i .actions) (i .taken) before)) (some : 1 ≤ c .users) where
-    pub trials-are : (t : Trials) → t ≡ trialsOf (policyOf i) (i .actions) (i .taken) (take (c .users) each) before → t ≡ eachTried c i before
+  module _ (before : List ℕ) (fills : So (isFilled (policyOf i) (i .actions) (i .taken) before)) where
+    abbrev none : Trials
+    none = record { mask = 0; workspace = before }
+
+    abbrev tested : Bool
+    tested = ltb (i .taken) 12 && leb 1 k
+
+    abbrev firstTried : Trials
+    firstTried = record { mask = number (map (λ u. possible (term i) 0 (tried c i u)) (range 0 k)); workspace = filled (term i) (tried c i (k - 1)) before }
+
+    trials-are : (t : Trials) → t ≡ trialsOf (policyOf i) (i .actions) (i .taken) (take k each) before → t ≡ cond tested firstTried none
     unfolding trialsOf
-    trials-are t e = e ∙ ap (λ b. cond b yes no) test ∙ ap₂ (λ m w. cond (ltb (i .taken) 12) (record { mask = m; workspace = w }) no) can-act-is last
+    trials-are t e = e ∙ ap (λ b. cond b yes none) test ∙ by-test (leb 1 k) somebody (λ f. rw f (neither (ltb (i .taken) 12)))
       where
         yes : Trials
         yes = record {
-          mask = canAct (term i) (takenOf i) (take (c .users) each);
-          workspace = filled (term i) (takenOf i ++ (actionBy (take (c .users) each) (length (take (c .users) each) - 1) ∷ [])) before;
+          mask = canAct (term i) (takenOf i) (take k each);
+          workspace = filled (term i) (takenOf i ++ (actionBy (take k each) (length (take k each) - 1) ∷ [])) before;
         }
 
-        no : Trials
-        no = record { mask = 0; workspace = before }
+        test : ((ltb (i .taken) 12 && (leb 1 (length (take k each)) && leb (length (take k each)) 16)) && isFilled (policyOf i) (i .actions) (i .taken) before) ≡ tested
+        test = rw (mets-length, le-leb k 16 few, fills) (and-true (ltb (i .taken) 12 && (leb 1 k && true)) ∙ ap (λ b. ltb (i .taken) 12 && b) (and-true (leb 1 k)))
 
-        test : ((ltb (i .taken) 12 && (leb 1 (length (take (c .users) each)) && leb (length (take (c .users) each)) 16)) && isFilled (policyOf i) (i .actions) (i .taken) before)
-            ≡ ltb (i .taken) 12
-        test = rw (mets-length, le-leb 1 (c .users) some, le-leb (c .users) 16 few, fills) (and-true (ltb (i .taken) 12 && true) ∙ and-true (ltb (i .taken) 12))
+        last : 1 ≤ k → yes .workspace ≡ filled (term i) (tried c i (k - 1)) before
+        last some = ap (λ n. filled (term i) (takenOf i ++ (actionBy (take k each) (n - 1) ∷ [])) before) mets-length
+            ∙ ap (λ a. filled (term i) (takenOf i ++ (a ∷ [])) before) (noted-by (k - 1) (omega arith))
 
-        last : yes .workspace ≡ filled (term i) (tried c i (c .users - 1)) before
-        last = ap (λ n. filled (term i) (takenOf i ++ (actionBy (take (c .users) each) (n - 1) ∷ [])) before) mets-length
-            ∙ ap (λ a. filled (term i) (takenOf i ++ (a ∷ [])) before) (noted-by (c .users - 1) (omega arith))
+        somebody : leb 1 k ≡ true → cond tested yes none ≡ cond tested firstTried none
+        somebody h = ap₂ (λ m w. cond tested (record { mask = m; workspace = w }) none) can-act-is (last (leb-true 1 k h))
+
+        neither : (b : Bool) → cond (b && false) yes none ≡ cond (b && false) firstTried none
+        neither true = refl
+        neither false = refl
+
+-- ── the candidates ──
+and-false : (b : Bool) → (b && false) ≡ false
+and-false true = refl
+and-false false = refl
+
+module _ (c : Configuration) (i : Instance) (a : ℕ) (few : c .users ≤ 16) where
+  abbrev candidate : ℕ → Bool
+  candidate = isCandidate c i a
+
+  abbrev digits : List Bool
+  digits = map candidate (range 0 16)
+
+  abbrev behind : ℕ
+  behind = behindLast digits
+
+  digits-length : length digits ≡ 16
+  digits-length = length-map (range 0 16) candidate ∙ range-length 0 16
+
+  behind-few : behind ≤ 16
+  behind-few = omega (arith, behind-most digits, digits-length)
+
+  declared-alone : (u : ℕ) → c .users ≤ u → candidate u ≡ false
+  declared-alone u h = rw (le-ltb u (c .users) h) (and-false (isSomewhere (leadsTo i a)))
+
+  -- nobody is one past the last
+  past : (u : ℕ) → behind ≤ u → candidate u ≡ false
+  past u h = by (lt-or-le u 16)
+    where
+      by : (u < 16) ⊎ (16 ≤ u) → candidate u ≡ false
+      by (inl l) = by-test (candidate u) (λ t. absurd (omega (arith, h, before-last digits u (map-below candidate false 16 u l ∙ t)))) (λ f. f)
+      by (inr g) = declared-alone u (omega arith)
+
+  -- the last one is declared
+  last-is : (j : ℕ) → behind ≡ suc j → So (candidate j)
+  last-is j e = sym (map-below candidate false 16 j (omega (arith, e, behind-few))) ∙ is-last digits j e
+
+  behind-declared : behind ≤ c .users
+  behind-declared = by behind refl
+    where
+      by : (k : ℕ) → behind ≡ k → k ≤ c .users
+      by zero e = omega arith
+      by (suc j) e =
+          let h = and-split (isSomewhere (leadsTo i a)) (ltb j (c .users) && isAuthorized c i j a) (last-is j e) .1 in
+          let l = so-lt j (c .users) (and-split (ltb j (c .users)) (isAuthorized c i j a) h .0) in
+          omega arith
+
+  abbrev possible-for : ℕ → Bool
+  possible-for u = possible (term i) 0 (tried c i u)
+
+  abbrev can-act : ℕ → Bool
+  can-act u = candidate u && possible-for u
+
+  -- of the first ones that can act, those who are candidates
+  masked : bitAnd (number (map possible-for (range 0 behind))) (number digits) ≡ number (map can-act (range 0 (c .users)))
+  masked =
+      ap (bitAnd (number (map possible-for (range 0 behind)))) (number-short candidate 0 behind 16 behind-few (λ u l. past u (omega arith)))
+      ∙ number-and possible-for candidate (range 0 behind)
+      ∙ sym (number-short can-act 0 behind (c .users) behind-declared (λ u l. ap (λ b. b && possible-for u) (past u (omega arith))))
+
+  module _ (within : behind ≤ length (c .«user_roles»)) (each : List ℕ) (long : behind ≤ length each) (is : each ≡ metEach (policyOf i) (take behind (c .«user_roles»)))
+      (before : List ℕ) (fills : So (isFilled (policyOf i) (i .actions) (i .taken) before)) where
+    candidates-tried : (t : Trials) → t ≡ trialsOf (policyOf i) (i .actions) (i .taken) (take behind each) before
+        → record { mask = bitAnd (t .mask) (number digits); workspace = t .workspace } ≡ eachTried c i a before
+    unfolding candidatesOf
+    candidates-tried t e = ap among (trials-are c i behind behind-few within each long is before fills t e) ∙ by (tested c i behind behind-few within each long is before fills)
+      where
+        among : Trials → Trials
+        among x = record { mask = bitAnd (x .mask) (number digits); workspace = x .workspace }
+
+        first : Trials
+        first = firstTried c i behind behind-few within each long is before fills
+
+        nobody : Trials
+        nobody = record { mask = 0; workspace = before }
+
+        by : (b : Bool) → among (cond b first nobody)
+            ≡ cond b (record { mask = number (map can-act (range 0 (c .users))); workspace = filled (term i) (tried c i (behind - 1)) before }) nobody
+        by true = ap (λ n. record { mask = n; workspace = filled (term i) (tried c i (behind - 1)) before }) masked
+        by false = ap (λ n. record { mask = n; workspace = before }) (and-zero-l (number digits))
+
+  -- so it is for whatever the candidates were found to be
+  abbrev Tried : Candidates → Type 0
+  Tried r =
+      (within : r .behind ≤ length (c .«user_roles»)) (each : List ℕ) → r .behind ≤ length each → each ≡ metEach (policyOf i) (take (r .behind) (c .«user_roles»))
+      → (before : List ℕ) → So (isFilled (policyOf i) (i .actions) (i .taken) before)
+      → (t : Trials) → t ≡ trialsOf (policyOf i) (i .actions) (i .taken) (take (r .behind) each) before
+      → record { mask = bitAnd (t .mask) (r .users); workspace = t .workspace } ≡ eachTried c i a before
+
+  module _ (r : Candidates) (e : r ≡ candidatesOf c i a) where
+    pub found-few : r .behind ≤ 16
+    unfolding candidatesOf
+    found-few = subst (λ (x : Candidates). x .behind ≤ 16) (sym e) behind-few
+
+    pub found-tried : Tried r
+    unfolding candidatesOf
+    found-tried = subst Tried (sym e) candidates-tried
+
+-- ── an action's number, by its tests ──
+abbrev numbered : Bool → Bool → Bool → Bool → ℕ
+numbered p q f b = cond (not p) NOT-AUTHORIZED (cond (not q) NO-TRANSITION (cond f FULL (cond (not b) NOT-POSSIBLE 0)))
+
+accepted-by : (p q b : Bool) → eqb (numbered p q false b) 0 ≡ ((q && p) && b)
+accepted-by true true true = refl
+accepted-by true true false = refl
+accepted-by true false b = refl
+accepted-by false true b = refl
+accepted-by false false b = refl
+
+full-by : (p q b : Bool) → eqb (numbered p q true b) 0 ≡ false
+full-by true true b = refl
+full-by true false b = refl
+full-by false q b = refl
+
+tried-by : (p q f b : Bool) → not (eqb (numbered p q f b) NOT-AUTHORIZED || eqb (numbered p q f b) NO-TRANSITION) ≡ (q && p)
+tried-by true true true b = refl
+tried-by true true false true = refl
+tried-by true true false false = refl
+tried-by true false f b = refl
+tried-by false true f b = refl
+tried-by false false f b = refl
 
 -- ── the mask ──
 -- nobody
 no-digit : (n : ℕ) (f : ℕ → Bool) → ((u : ℕ) → u < n → f u ≡ false) → number (map f (range 0 n)) ≡ 0
-no-digit n f h = ap number (map-same false n f (λ u. false) h) ∙ none 0 n
-  where
-    none : (i n : ℕ) → number (map (λ u. false) (range i n)) ≡ 0
-    none i zero = refl
-    none i (suc n) = rw (none (suc i) n)
+no-digit n f h = ap number (map-same false n f (λ u. false) h) ∙ number-short (λ u. false) 0 0 n (omega arith) (λ u l. refl)
 
-module _ (m : Monitor) (n : ℕ) where
-  nobody : ((u : ℕ) → u < m .configuration .users → eventCode m (actionWord u 0) n ≢ 0) → enabledMask m n ≡ 0
+module _ (m : Monitor) (n a : ℕ) where
+  nobody : ((u : ℕ) → u < m .configuration .users → eventCode m (actionWord u a) n ≢ 0) → enabledMask m n a ≡ 0
   unfolding enabledMask
-  nobody h = no-digit (m .configuration .users) (mayAct m n) (λ u b. ne-eqb (eventCode m (actionWord u 0) n) 0 (h u b))
+  nobody h = no-digit (m .configuration .users) (mayAct m n a) (λ u b. ne-eqb (eventCode m (actionWord u a) n) 0 (h u b))
+
+-- where no word touches the workspace, no trial does
+untouched : (m : Monitor) (a : ℕ) (before : List ℕ) → ((w : ℕ) → before ≡ outcome m w before .workspace) → (k : ℕ) → before ≡ leftBy m k a before
+untouched m a before h k = by-test (eqb k 0) (λ t. rw t) (λ f. rw f (h (actionWord (k - 1) a)))
 
 -- where 12 or 15 applies, nothing is judged
 module _ (m : Monitor) (before : List ℕ) (ne : code (admission m (length before)) ≢ 0) where
@@ -150,15 +262,15 @@ module _ (m : Monitor) (before : List ℕ) (ne : code (admission m (length befor
   refused-left : (w : ℕ) → before ≡ outcome m w before .workspace
   refused-left w = ap (λ (o : Outcome). o .workspace) (not-admitted m w before ne)
 
-  pub enabled-refused : record { answer = Refused (code (admission m (length before))); workspace = before } ≡ enabledOf m before
+  pub enabled-refused : (a : ℕ) → record { answer = Refused (code (admission m (length before))); workspace = before } ≡ enabledOf m a before
   unfolding enabledOf
-  enabled-refused = ap₂ (λ b w. record { answer = cond b (Users (enabledMask m (length before))) (Refused (code (admission m (length before)))); workspace = w })
-      (sym (ne-eqb (code (admission m (length before))) 0 ne)) (refused-left (actionWord (m .configuration .users - 1) 0))
+  enabled-refused a = ap₂ (λ b w. record { answer = cond b (Users (enabledMask m (length before) a)) (Refused (code (admission m (length before)))); workspace = w })
+      (sym (ne-eqb (code (admission m (length before))) 0 ne)) (untouched m a before refused-left (behindTrials m (length before) a))
 
-module _ (m : Monitor) (before : List ℕ) (ok : code (admission m (length before)) ≡ 0) where
+module _ (m : Monitor) (before : List ℕ) (ok : code (admission m (length before)) ≡ 0) (a : ℕ) where
   -- the answer, from what it is put together from
-  put : (mask : ℕ) (after : List ℕ) → mask ≡ enabledMask m (length before) → after ≡ outcome m (actionWord (m .configuration .users - 1) 0) before .workspace
-      → record { answer = Users mask; workspace = after } ≡ enabledOf m before
+  put : (mask : ℕ) (after : List ℕ) → mask ≡ enabledMask m (length before) a → after ≡ leftBy m (behindTrials m (length before) a) a before
+      → record { answer = Users mask; workspace = after } ≡ enabledOf m a before
   unfolding enabledOf
   put mask after p q = rw (ok) (ap₂ (λ x w. record { answer = Users x; workspace = w }) p q)
 
@@ -169,19 +281,19 @@ module _ (m : Monitor) (before : List ℕ) (ok : code (admission m (length befor
         let z : code (entry (m .instance) (eventIn m w)) ≡ CLOSED = rw closed in
         subst (λ k. record { code = k; monitor = m; workspace = before } ≡ outcome m w before) z (not-entered m w before ok (λ e. absurd (omega (arith, sym z ∙ e))))
 
-    closed-left : before ≡ outcome m (actionWord (m .configuration .users - 1) 0) before .workspace
-    closed-left = ap (λ (o : Outcome). o .workspace) (not-entered-all (actionWord (m .configuration .users - 1) 0))
+    closed-left : before ≡ leftBy m (behindTrials m (length before) a) a before
+    closed-left = untouched m a before (λ w. ap (λ (o : Outcome). o .workspace) (not-entered-all w)) (behindTrials m (length before) a)
 
-    closed-nobody : enabledMask m (length before) ≡ 0
+    closed-nobody : enabledMask m (length before) a ≡ 0
     unfolding outcome
-    closed-nobody = nobody m (length before)
-        (λ u b e. let z = ap (λ (o : Outcome). o .code) (not-entered-all (actionWord u 0)) ∙ e in absurd (omega arith))
+    closed-nobody = nobody m (length before) a
+        (λ u b e. let z = ap (λ (o : Outcome). o .code) (not-entered-all (actionWord u a)) ∙ e in absurd (omega arith))
 
-    pub enabled-closed : record { answer = Users 0; workspace = before } ≡ enabledOf m before
+    pub enabled-closed : record { answer = Users 0; workspace = before } ≡ enabledOf m a before
     enabled-closed = put 0 before (sym closed-nobody) closed-left
 
   -- an open one judges an action of each user
-  module _ (is-open : isClosed (m .instance) ≡ false) where
+  module _ (is-open : isClosed (m .instance) ≡ false) (byte : a < 256) where
     abbrev c : Configuration
     c = m .configuration
 
@@ -191,73 +303,126 @@ module _ (m : Monitor) (before : List ℕ) (ok : code (admission m (length befor
     few : c .users ≤ 16
     few = users-most c (formed m (admits m (length before) ok .1) .in-configuration)
 
-    some : 1 ≤ c .users
-    some = users-least c (formed m (admits m (length before) ok .1) .in-configuration)
-
-    acted : (u : ℕ) → u < c .users → monitorOutcome m (Acts u 0) before ≡ outcome m (actionWord u 0) before
+    acted : (u : ℕ) → u < c .users → monitorOutcome m (Acts u a) before ≡ outcome m (actionWord u a) before
     acted u h =
-        let is : eventIn m (actionWord u 0) ≡ Acts u 0 = read-action u 0 (omega (arith, few)) (omega arith) (c .users) (c .roles) ∙ rw (lt-ltb u (c .users) h) in
-        let enters : code (entry i (eventIn m (actionWord u 0))) ≡ 0 = ap (λ e. code (entry i e)) is ∙ rw is-open in
-        subst (λ e. monitorOutcome m e before ≡ outcome m (actionWord u 0) before) is (performed m (actionWord u 0) before ok enters)
+        let is : eventIn m (actionWord u a) ≡ Acts u a = read-action u a (omega (arith, few)) byte (c .users) (c .roles) ∙ rw (lt-ltb u (c .users) h) in
+        let enters : code (entry i (eventIn m (actionWord u a))) ≡ 0 = ap (λ e. code (entry i e)) is ∙ rw is-open in
+        subst (λ e. monitorOutcome m e before ≡ outcome m (actionWord u a) before) is (performed m (actionWord u a) before ok enters)
 
-    own : (u : ℕ) → u < c .users → eventCode m (actionWord u 0) (length before) ≡ code (ownRefusals c i (Acts u 0))
+    abbrev its-code : ℕ → ℕ
+    its-code u = numbered (isAuthorized c i u a) (isSomewhere (leadsTo i a)) (leb 12 (i .taken)) (possible (term i) 0 (tried c i u))
+
+    own : (u : ℕ) → u < c .users → eventCode m (actionWord u a) (length before) ≡ its-code u
     unfolding outcome
     own u h = ap (λ (o : Outcome). o .code) (sym (acted u h))
 
-    left : (u : ℕ) → u < c .users → outcome m (actionWord u 0) before .workspace ≡ workspaceAfter c i (Acts u 0) (code (ownRefusals c i (Acts u 0))) before
+    left : (u : ℕ) → u < c .users → outcome m (actionWord u a) before .workspace ≡ workspaceAfter c i (Acts u a) (its-code u) before
     left u h = ap (λ (o : Outcome). o .workspace) (sym (acted u h))
 
-    judged : (u : ℕ) → (b : Bool) → leb 12 (i .taken) ≡ false → possible (term i) 0 (tried c i u) ≡ b → eqb (code (ownRefusals c i (Acts u 0))) 0 ≡ b
-    judged u true f e = rw (f, e)
-    judged u false f e = rw (f, e)
+    -- a declared user is a candidate where neither 16 nor 17 applies
+    declared-is : (u : ℕ) → u < c .users → isCandidate c i a u ≡ (isSomewhere (leadsTo i a) && isAuthorized c i u a)
+    declared-is u h = rw (lt-ltb u (c .users) h)
 
-    filled-for : (u : ℕ) → (b : Bool) → leb 12 (i .taken) ≡ false → possible (term i) 0 (tried c i u) ≡ b
-        → workspaceAfter c i (Acts u 0) (code (ownRefusals c i (Acts u 0))) before ≡ filled (term i) (tried c i u) before
-    filled-for u true f e = rw (f, e)
-    filled-for u false f e = rw (f, e)
+    gets-trial : (u : ℕ) → u < c .users → getsTrial m (length before) a u ≡ isCandidate c i a u
+    gets-trial u h =
+        ap (λ k. not (eqb k NOT-AUTHORIZED || eqb k NO-TRANSITION)) (own u h)
+        ∙ tried-by (isAuthorized c i u a) (isSomewhere (leadsTo i a)) (leb 12 (i .taken)) (possible (term i) 0 (tried c i u)) ∙ sym (declared-is u h)
 
-    mask-is : enabledMask m (length before) ≡ eachTried c i before .mask
-    unfolding enabledMask
-    mask-is = by-test (ltb (i .taken) 12)
-        (λ f. let g = lt-leb 12 (i .taken) (so-lt (i .taken) 12 f) in
-        rw f (ap number (map-same false (c .users) (mayAct m (length before)) (λ u. possible (term i) 0 (tried c i u))
-        (λ u h. ap (λ k. eqb k 0) (own u h) ∙ judged u (possible (term i) 0 (tried c i u)) g refl))))
-        (λ f. rw f (no-digit (c .users) (mayAct m (length before)) (λ u h. ap (λ k. eqb k 0) (own u h) ∙ rw (le-leb 12 (i .taken) (ltb-false (i .taken) 12 f)))))
+    behind-is : behindTrials m (length before) a ≡ behind c i a few
+    unfolding behindTrials
+    behind-is =
+        ap behindLast (map-same false (c .users) (getsTrial m (length before) a) (isCandidate c i a) gets-trial)
+        ∙ sym (behind-short (isCandidate c i a) 0 (c .users) 16 few (λ u l. declared-alone c i a few u (omega arith)))
 
-    left-is : outcome m (actionWord (c .users - 1) 0) before .workspace ≡ eachTried c i before .workspace
-    left-is = by-test (ltb (i .taken) 12)
-        (λ f. let g = lt-leb 12 (i .taken) (so-lt (i .taken) 12 f) in
-        rw f (left (c .users - 1) (omega (arith, some)) ∙ filled-for (c .users - 1) (possible (term i) 0 (tried c i (c .users - 1))) g refl))
-        (λ f. rw f (left (c .users - 1) (omega (arith, some)) ∙ rw (le-leb 12 (i .taken) (ltb-false (i .taken) 12 f))))
+    may-act : (u : ℕ) → u < c .users → leb 12 (i .taken) ≡ false → mayAct m (length before) a u ≡ can-act c i a few u
+    may-act u h f =
+        ap (λ k. eqb k 0) (own u h ∙ ap (λ x. numbered (isAuthorized c i u a) (isSomewhere (leadsTo i a)) x (possible (term i) 0 (tried c i u))) f)
+        ∙ accepted-by (isAuthorized c i u a) (isSomewhere (leadsTo i a)) (possible (term i) 0 (tried c i u))
+        ∙ ap (λ b. b && possible (term i) 0 (tried c i u)) (sym (declared-is u h))
 
-    pub enabled-tried : (mask : ℕ) (after : List ℕ) → record { mask = mask; workspace = after } ≡ eachTried c i before → record { answer = Users mask; workspace = after } ≡ enabledOf m before
+    may-not : (u : ℕ) → u < c .users → leb 12 (i .taken) ≡ true → mayAct m (length before) a u ≡ false
+    may-not u h f =
+        ap (λ k. eqb k 0) (own u h ∙ ap (λ x. numbered (isAuthorized c i u a) (isSomewhere (leadsTo i a)) x (possible (term i) 0 (tried c i u))) f)
+        ∙ full-by (isAuthorized c i u a) (isSomewhere (leadsTo i a)) (possible (term i) 0 (tried c i u))
+
+    mask-is : enabledMask m (length before) a ≡ eachTried c i a before .mask
+    unfolding enabledMask candidatesOf
+    mask-is = by-test (ltb (i .taken) 12) free (λ f. rw f (no-digit (c .users) (mayAct m (length before) a) (λ u h. may-not u h (le-leb 12 (i .taken) (ltb-false (i .taken) 12 f)))))
+      where
+        same : ltb (i .taken) 12 ≡ true → number (map (mayAct m (length before) a) (range 0 (c .users))) ≡ number (map (can-act c i a few) (range 0 (c .users)))
+        same f = ap number (map-same false (c .users) (mayAct m (length before) a) (can-act c i a few) (λ u h. may-act u h (lt-leb 12 (i .taken) (so-lt (i .taken) 12 f))))
+
+        free : ltb (i .taken) 12 ≡ true → number (map (mayAct m (length before) a) (range 0 (c .users))) ≡ eachTried c i a before .mask
+        free f = by-test (leb 1 (behind c i a few)) (λ s. rw (f, s) (same f))
+            (λ z. rw (f, z) (same f ∙ no-digit (c .users) (can-act c i a few) (λ u h. ap (λ b. b && possible (term i) 0 (tried c i u)) (past c i a few u (omega (arith, leb-false 1 (behind c i a few) z))))))
+
+    -- the workspace after the last candidate's trial
+    module _ (j : ℕ) (e : behind c i a few ≡ suc j) where
+      is-declared : j < c .users
+      is-declared = omega (arith, behind-declared c i a few, e)
+
+      goes : So (isSomewhere (leadsTo i a) && isAuthorized c i j a)
+      goes = sym (declared-is j is-declared) ∙ last-is c i a few j e
+
+      last-free : leb 12 (i .taken) ≡ false → workspaceAfter c i (Acts j a) (its-code j) before ≡ filled (term i) (tried c i j) before
+      last-free f =
+          let (q, p) = and-split (isSomewhere (leadsTo i a)) (isAuthorized c i j a) goes in
+          by-test (possible (term i) 0 (tried c i j)) (λ b. rw (p, q, f, b)) (λ b. rw (p, q, f, b))
+
+      last-full : leb 12 (i .taken) ≡ true → workspaceAfter c i (Acts j a) (its-code j) before ≡ before
+      last-full f =
+          let (q, p) = and-split (isSomewhere (leadsTo i a)) (isAuthorized c i j a) goes in
+          rw (p, q, f)
+
+    left-is : leftBy m (behindTrials m (length before) a) a before ≡ eachTried c i a before .workspace
+    unfolding candidatesOf
+    left-is = ap (λ k. leftBy m k a before) behind-is ∙ by (behind c i a few) refl
+      where
+        mask : ℕ
+        mask = number (map (can-act c i a few) (range 0 (c .users)))
+
+        tries : ℕ → Trials
+        tries k = cond (ltb (i .taken) 12 && leb 1 k) (record { mask = mask; workspace = filled (term i) (tried c i (k - 1)) before }) (record { mask = 0; workspace = before })
+
+        by : (k : ℕ) → behind c i a few ≡ k → leftBy m k a before ≡ tries k .workspace
+        by zero e = rw (and-false (ltb (i .taken) 12))
+        by (suc j) e =
+            let n : suc j - 1 ≡ j = omega arith in
+            let some = le-leb 1 (suc j) (omega arith) in
+            let trial = ap (λ u. outcome m (actionWord u a) before .workspace) n ∙ left j (is-declared j e) in
+            by-test (ltb (i .taken) 12)
+            (λ f. rw (eqb·suc-zero j, some, f)
+            (trial ∙ last-free j e (lt-leb 12 (i .taken) (so-lt (i .taken) 12 f)) ∙ ap (λ u. filled (term i) (tried c i u) before) (sym n)))
+            (λ f. rw (eqb·suc-zero j, some, f) (trial ∙ last-full j e (le-leb 12 (i .taken) (ltb-false (i .taken) 12 f))))
+
+    pub enabled-tried : (mask : ℕ) (after : List ℕ) → record { mask = mask; workspace = after } ≡ eachTried c i a before → record { answer = Users mask; workspace = after } ≡ enabledOf m a before
     enabled-tried mask after e = put mask after (ap (λ (t : Trials). t .mask) e ∙ sym mask-is) (ap (λ (t : Trials). t .workspace) e ∙ sym left-is)
 
-    full-nobody : So (leb 12 (i .taken)) → (enabledMask m (length before) ≡ 0) × (outcome m (actionWord (c .users - 1) 0) before .workspace ≡ before)
+    full-nobody : So (leb 12 (i .taken)) → (enabledMask m (length before) a ≡ 0) × (leftBy m (behindTrials m (length before) a) a before ≡ before)
     full-nobody f = let g = le-ltb (i .taken) 12 (leb-true 12 (i .taken) f) in (mask-is ∙ rw g, left-is ∙ rw g)
 
 pub closed-or-full-is-nobody : ClosedOrFullIsNobody
 unfolding enabledOf
-closed-or-full-is-nobody m before h =
+closed-or-full-is-nobody m a before byte h =
     by-test (eqb (code (admission m (length before))) 0)
     (λ e. admitted (so-eq (code (admission m (length before))) 0 e))
     (λ e. let ne : code (admission m (length before)) ≢ 0 = λ z. true≢false (sym (eq-so (code (admission m (length before))) 0 z) ∙ e) in
-    (nobody m (length before) (λ u b. refused-all m before ne (actionWord u 0)), sym (refused-left m before ne (actionWord (m .configuration .users - 1) 0))))
+    (nobody m (length before) a (λ u b. refused-all m before ne (actionWord u a)), sym (untouched m a before (refused-left m before ne) (behindTrials m (length before) a))))
   where
     admitted : code (admission m (length before)) ≡ 0
-        → (enabledMask m (length before) ≡ 0) × (outcome m (actionWord (m .configuration .users - 1) 0) before .workspace ≡ before)
+        → (enabledMask m (length before) a ≡ 0) × (leftBy m (behindTrials m (length before) a) a before ≡ before)
     admitted ok =
         by-test (isClosed (m .instance))
-        (λ k. (closed-nobody m before ok k, sym (closed-left m before ok k)))
-        (λ k. full-nobody m before ok k (rw k at h))
+        (λ k. (closed-nobody m before ok a k, sym (closed-left m before ok a k)))
+        (λ k. full-nobody m before ok a k byte (rw k at h))
 
 -- ── its bits ──
 pub no-other-bit : NoOtherBit
 unfolding enabledMask
-no-other-bit m n u h =
-    let digits = map (mayAct m n) (range 0 (m .configuration .users)) in
+no-other-bit m n u a h =
+    let digits = map (mayAct m n a) (range 0 (m .configuration .users)) in
     bit-number digits u
-    ∙ List·getD-eq-default digits false (omega (arith, length-map (range 0 (m .configuration .users)) (mayAct m n), range-length 0 (m .configuration .users)))
+    ∙ List·getD-eq-default digits false (omega (arith, length-map (range 0 (m .configuration .users)) (mayAct m n a), range-length 0 (m .configuration .users)))
 
 pub bit-is-action : BitIsAction
 unfolding enabledMask
@@ -266,17 +431,14 @@ bit-is-action m n u a h k = by (lt-or-le u (m .configuration .users))
     e : Event
     e = eventIn m (actionWord u a)
 
-    here : u < m .configuration .users → bit u (enabledMask m n) ≡ mayAct m n u
-    here d = bit-number (map (mayAct m n) (range 0 (m .configuration .users))) u ∙ map-below (mayAct m n) false (m .configuration .users) u d
-
     undeclared : m .configuration .users ≤ u → isMalformed e ≡ false → ⊥
     undeclared d z =
         let is : e ≡ Malformed = read-action u a h k (m .configuration .users) (m .configuration .roles) ∙ rw (le-ltb u (m .configuration .users) d) in
         true≢false (sym (ap isMalformed is) ∙ z)
 
-    by : (u < m .configuration .users) ⊎ (m .configuration .users ≤ u) → bit u (enabledMask m n) ≡ eqb (eventCode m (actionWord u a) n) 0
-    by (inl d) = here d ∙ ap (λ x. eqb x 0) (sym (same-code m n u a h k))
-    by (inr d) = no-other-bit m n u d ∙ sym (ne-eqb (eventCode m (actionWord u a) n) 0 (λ z. undeclared d (accepted-has-passed m e n z .in-layout)))
+    by : (u < m .configuration .users) ⊎ (m .configuration .users ≤ u) → bit u (enabledMask m n a) ≡ eqb (eventCode m (actionWord u a) n) 0
+    by (inl d) = bit-number (map (mayAct m n a) (range 0 (m .configuration .users))) u ∙ map-below (mayAct m n a) false (m .configuration .users) u d
+    by (inr d) = no-other-bit m n u a d ∙ sym (ne-eqb (eventCode m (actionWord u a) n) 0 (λ z. undeclared d (accepted-has-passed m e n z .in-layout)))
 
 pub refusal-keeps-mask : RefusalKeepsMask
-refusal-keeps-mask m w before n ne = ap (λ x. enabledMask x n) (refusal-alters-nothing m w before ne .0)
+refusal-keeps-mask m w before n a ne = ap (λ x. enabledMask x n a) (refusal-alters-nothing m w before ne .0)

@@ -60,10 +60,10 @@ module _ (c : Configuration) (i : Instance) (room : List ℕ) (k : Configuration
   pub fillable-formed : Fillable i room
   fillable-formed = fillable i room (f .words-most) (formed-read c i f .long) (formed-read c i f .term) (formed-read c i f .formed) (f .taken-most) users-known long
 
-  pub fillable-more : (a : Action) → i .taken < 12 → i .taken < length (i .actions) → a .user < c .users → Fillable (withAction i a) room
-  fillable-more a free within u =
-      fillable (withAction i a) room (f .words-most) (formed-read c i f .long) (formed-read c i f .term) (formed-read c i f .formed) (omega arith)
-      (rw (taken-more i a within) (all-parts known (split-append (takenOf i) (a ∷ [])) users-known (and-join (known a) _ (lt-so (a .user) 16 (omega (arith, users-most c k))) refl)))
+  pub fillable-more : (a : Action) (s : ℕ) → i .taken < 12 → i .taken < length (i .actions) → a .user < c .users → Fillable (withAction i a s) room
+  fillable-more a s free within u =
+      fillable (withAction i a s) room (f .words-most) (formed-read c i f .long) (formed-read c i f .term) (formed-read c i f .formed) (omega arith)
+      (rw (taken-more i a s within) (all-parts known (split-append (takenOf i) (a ∷ [])) users-known (and-join (known a) _ (lt-so (a .user) 16 (omega (arith, users-most c k))) refl)))
       long
 
 -- what the condition says of the workspace and of the number of actions

@@ -11,10 +11,11 @@ use Rattle.policy.specs.Accepted.{IsPolicy}
 use Rattle.policy.proofs.Refusals.{clear, clear-code, clear-front, clear-behind}
 use Rattle.policy.proofs.Accepted.{read-is-encode, decode-is-term}
 use Rattle.monitor.specs.declared.Monitor.{Monitor}
+use Rattle.workflow.specs.Reading.{secureOk}
 use Rattle.instance.specs.Configurations.{rowsOk, configurationOk}
 use Rattle.instance.specs.Instances.{instanceOk}
 use Rattle.monitor.specs.Monitors.{Opening, openRefusals, openCode, wellFormed}
-use Rattle.monitor.specs.Laws.{OpenedIsPolicy, OpenedRowsOk, TwelveAtMost}
+use Rattle.monitor.specs.Laws.{OpenedIsPolicy, OpenedRowsOk, OpenedSecureOk, TwelveAtMost}
 use Rattle.instance.proofs.Formed.{PolicyOk, policy-ok, ConfigurationFormed, configuration-formed, is-configuration-formed, InstanceFormed, instance-formed, is-instance-formed}
 use Rattle.monitor.proofs.Opening.{policy-refusals, rows-refusal}
 
@@ -34,6 +35,10 @@ module _ (o : Opening) (e : openCode o ≡ 0) where
 pub opened-rows-ok : OpenedRowsOk
 unfolding openRefusals
 opened-rows-ok o e = not-false (rowsOk (o .users) (o .roles) (o .rows)) (clear-behind (policy-refusals o) (rows-refusal o) (all-clear o e) .0)
+
+pub opened-secure-ok : OpenedSecureOk
+unfolding openRefusals
+opened-secure-ok o e = not-false (secureOk (o .roles) (o .permissions) (o .workflow)) (clear-behind (policy-refusals o) (rows-refusal o) (all-clear o e) .1 .0)
 
 pub opened-is-policy : OpenedIsPolicy
 unfolding readPolicy

@@ -11,3 +11,4 @@ pub mod Preserved
 pub mod Fillable
 -- Who may act.
 pub mod Enabling
+pub mod Unordered

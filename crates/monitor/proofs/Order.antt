@@ -1,5 +1,5 @@
 -- An event's checks in order: 12 or 15 decides, then 10 or 7, then the event's own refusals.
-use mathlib.Core.Path.{_≡_, refl, subst, ap, _∙_}
+use mathlib.Core.Path.{_≡_, refl, sym, subst, ap, _∙_}
 use mathlib.Core.Logic.{_≢_}
 use mathlib.Core.Bool.{Bool, true, false, So, not, _&&_, cond}
 use mathlib.Core.List.{List, [], _∷_, _++_}
@@ -20,8 +20,10 @@ use Rattle.monitor.specs.declared.Event.{Event}
 use Rattle.monitor.specs.declared.Event.the-variants.{Acts, Grants, Revokes, Closes, Malformed}
 use Rattle.workspace.specs.Workspace.{filled}
 use Rattle.instance.specs.Instances.{term, takenOf, notedFor, withAction, asClosed, isClosed}
+use Rattle.soda.specs.declared.Successor.the-variants.{To}
+use Rattle.instance.specs.Steps.{isAuthorized, leadsTo, stepRefusals, isFinal}
 use Rattle.monitor.specs.Monitors.{wellFormed, admission}
-use Rattle.monitor.specs.Events.{eventIn, isMalformed, entry, tried, ownRefusals, configured, advanced, applied, workspaceAfter, eventRefusals, Outcome, outcome}
+use Rattle.monitor.specs.Events.{eventIn, isMalformed, entry, tried, trialRefusals, ownRefusals, configured, advanced, applied, workspaceAfter, eventRefusals, Outcome, outcome}
 use Rattle.monitor.specs.Laws.{WellFormedIsAdmitted, AcceptedHasPassed}
 use Rattle.monitor.specs.Private.{InstanceOutcome, ownOutcome, monitorOutcome}
 
@@ -151,23 +153,35 @@ module _ (m : Monitor) (e : Event) (before : List ℕ) (stays : configured (m .c
 -- ── what an action and a close give to an instance, by their tests ──
 module _ (c : Configuration) (i : Instance) (before : List ℕ) where
   module _ (u a : ℕ) where
-    pub acts-on-full : 12 ≤ i .taken → record { code = FULL; instance = i; workspace = before } ≡ ownOutcome c i (Acts u a) before
-    acts-on-full h = simp (le-leb 12 (i .taken) h)
+    -- 16 and 17 leave everything
+    pub acts-refused : (k : ℕ) → code (stepRefusals c i u a) ≡ k → k ≢ 0 → record { code = k; instance = i; workspace = before } ≡ ownOutcome c i (Acts u a) before
+    acts-refused k e ne =
+        let given : code (stepRefusals c i u a) ≢ 0 = λ z. ne (sym e ∙ z) in
+        let own : code (ownRefusals c i (Acts u a)) ≡ k = code-front (stepRefusals c i u a) (trialRefusals c i u) given ∙ e in
+        let h = and-split (not (eqb k NOT-POSSIBLE)) (not (eqb k NOT-SATISFIED)) (subst (λ (n : ℕ). So (leaves n)) e (code-among leaves (stepRefusals c i u a) refl given)) in
+        rw (own, ne-eqb k 0 ne, not-true (eqb k NOT-POSSIBLE) (h .0))
 
-    module _ (free : i .taken < 12) (after : List ℕ) (w : after ≡ filled (term i) (tried c i u) before) where
-      pub acts-not-possible : possible (term i) 0 (tried c i u) ≡ false
-          → record { code = NOT-POSSIBLE; instance = i; workspace = after } ≡ ownOutcome c i (Acts u a) before
-      acts-not-possible p = simp (w, lt-leb 12 (i .taken) free, p)
+    module _ (s : ℕ) (may : isAuthorized c i u a ≡ true) (leads : leadsTo i a ≡ To s) where
+      pub acts-on-full : 12 ≤ i .taken → record { code = FULL; instance = i; workspace = before } ≡ ownOutcome c i (Acts u a) before
+      acts-on-full h = simp (may, leads, le-leb 12 (i .taken) h)
 
-      pub acts : (j : Instance) → j ≡ withAction i (notedFor c i u) → possible (term i) 0 (tried c i u) ≡ true
-          → record { code = ACCEPTED; instance = j; workspace = after } ≡ ownOutcome c i (Acts u a) before
-      acts j e p = simp (w, e, lt-leb 12 (i .taken) free, p)
+      module _ (free : i .taken < 12) (after : List ℕ) (w : after ≡ filled (term i) (tried c i u) before) where
+        pub acts-not-possible : possible (term i) 0 (tried c i u) ≡ false
+            → record { code = NOT-POSSIBLE; instance = i; workspace = after } ≡ ownOutcome c i (Acts u a) before
+        acts-not-possible p = simp (w, may, leads, lt-leb 12 (i .taken) free, p)
+
+        pub acts : (j : Instance) → j ≡ withAction i (notedFor c i u) s → possible (term i) 0 (tried c i u) ≡ true
+            → record { code = ACCEPTED; instance = j; workspace = after } ≡ ownOutcome c i (Acts u a) before
+        acts j e p = simp (w, e, may, leads, lt-leb 12 (i .taken) free, p)
 
   module _ (after : List ℕ) (w : after ≡ filled (term i) (takenOf i) before) where
     pub closes-not-satisfied : satisfied (term i) 0 (takenOf i) ≡ false
         → record { code = NOT-SATISFIED; instance = i; workspace = after } ≡ ownOutcome c i Closes before
     closes-not-satisfied p = simp (w, p)
 
-    pub closes : (j : Instance) → j ≡ asClosed i → satisfied (term i) 0 (takenOf i) ≡ true
-        → record { code = ACCEPTED; instance = j; workspace = after } ≡ ownOutcome c i Closes before
-    closes j e p = simp (w, e, p)
+    module _ (p : satisfied (term i) 0 (takenOf i) ≡ true) where
+      pub closes-not-final : isFinal i ≡ false → record { code = NOT-SATISFIED; instance = i; workspace = after } ≡ ownOutcome c i Closes before
+      closes-not-final f = simp (w, p, f)
+
+      pub closes : (j : Instance) → j ≡ asClosed i → isFinal i ≡ true → record { code = ACCEPTED; instance = j; workspace = after } ≡ ownOutcome c i Closes before
+      closes j e f = simp (w, e, p, f)

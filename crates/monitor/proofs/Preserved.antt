@@ -1,24 +1,24 @@
 -- Each part of a well-formed monitor stays as it has to be: rows below their limit under a bit set or cleared, noted bits among
 -- those of unit terms, unused places zero.
-use mathlib.Core.Path.{_≡_, refl, sym, ap, _∙_}
+use mathlib.Core.Path.{_≡_, refl, sym, ap, ap₂, _∙_}
 use mathlib.Core.Bool.{Bool, true, false, So, _&&_, cond}
 use mathlib.Core.List.{List, [], _∷_, map}
 use mathlib.Core.Option.{Option, some, none}
 use Prim.Native.Nat.{ℕ, zero, suc, _+_, _-_, _*_, _^_, _<_}
 use native.Mathlib.Numerals.{add-one}
 use native.Mathlib.Omega.{arith}
-use lib.Bits.{bitAnd, and-step, and-zero-l, or-lt}
+use lib.Bits.{bitAnd, and-zero-l, or-lt}
 use lib.Dec.{ltb, eqb}
 use lib.ListN.{length, getD, take, drop, set as put, replicate, length-set}
 use lib.Pow.{pow-lt}
 use lib.Seq.{take-set-lt, drop-set-lt, drop-cons, getD-take, take-append-seam, drop-append-seam}
-use borrow.Author.Tests.{leb-false}
+use borrow.Author.Tests.{eqb-false, leb-false, not-true, not-false}
 use Rattle.soda.specs.Bits.{number, setBit, clearBit}
 use Rattle.soda.specs.Lists.{all, padded}
 use Rattle.soda.specs.Terms.{Term, unit, subterms}
 use Rattle.soda.specs.Roles.{meets}
-use Rattle.soda.proofs.Bools.{never, and-split, and-join, so-lt, lt-so, eq-so, so-eq, by-test}
-use Rattle.soda.proofs.Bits.{half-digit}
+use Rattle.soda.specs.Workflows.{isSomewhere}
+use Rattle.soda.proofs.Bools.{and-split, and-join, so-lt, lt-so, eq-so, so-eq, by-test}
 use Rattle.soda.proofs.Splits.{split-append, all-parts, all-replicate}
 use Rattle.policy.specs.Words.{decode}
 use Rattle.policy.specs.Reading.{lengthOk, unitsOf}
@@ -28,14 +28,21 @@ use Rattle.instance.specs.declared.Configuration.{Configuration}
 use Rattle.instance.specs.declared.Instance.{Instance}
 use Rattle.monitor.specs.declared.Event.{Event}
 use Rattle.monitor.specs.declared.Event.the-variants.{Acts, Grants, Revokes, Closes, Malformed}
-use Rattle.instance.specs.Configurations.{assignment, held, withRow, isZero, configurationOf}
-use Rattle.instance.specs.Instances.{policyOf, takenOf, notedFor, withAction, instanceOf, actionOk, isIdle, noAction}
-use Rattle.monitor.specs.Monitors.{Opening, openCode, fresh}
+use Rattle.workflow.specs.declared.Workflow.{Workflow}
+use Rattle.workflow.specs.Workflows.{isGiven, workflowOk}
+use Rattle.workflow.specs.Laws.{Read}
+use Rattle.workflow.proofs.Formed.{read-is-formed}
+use Rattle.instance.specs.Configurations.{assignment, held, withPermissions, withRow, isZero, configurationOf}
+use Rattle.instance.specs.Instances.{policyOf, takenOf, notedFor, withAction, instanceOf, actionOk, isIdle, noAction, isPlaced}
+use Rattle.instance.specs.Steps.{leadsTo, stateOf}
+use Rattle.monitor.specs.Monitors.{Opening, secure, openCode, fresh}
 use Rattle.monitor.specs.Events.{eventIn, ownRefusals, applied, outcome}
 use Rattle.monitor.specs.Laws.{Passed}
 use Rattle.monitor.specs.Effects.{OpenedIsWellFormed, AcceptedStaysWellFormed, EventKeepsWellFormed}
 use Rattle.monitor.specs.Private.{Entered}
 use Rattle.instance.proofs.Digits.{or-is-set, sub-is-clear}
+use Rattle.instance.proofs.Gathering.{number-and}
+use Rattle.instance.proofs.Placing.{step-stays-placed}
 use Rattle.monitor.proofs.Reading.{declared, entered}
 use Rattle.monitor.proofs.Order.{accepted-has-passed}
 use Rattle.instance.proofs.Formed.{ConfigurationFormed, InstanceFormed, words-few, one-each}
@@ -56,16 +63,16 @@ module _ {A : Type 0} (f : A → Bool) where
   all-put (x ∷ l) (suc k) a h p = let q = and-split (f x) (all f l) h in and-join (f x) (all f (put l k a)) (q .0) (all-put l k a (q .1) p)
 
 -- ── noted bits are bits of unit terms ──
--- one digit more
-and-digit : (p q : Bool) (m n : ℕ) → (So p → So q) → bitAnd m n ≡ m → bitAnd (cond p 1 0 + 2 * m) (cond q 1 0 + 2 * n) ≡ cond p 1 0 + 2 * m
-and-digit true true m n h e = and-step (1 + 2 * m) (1 + 2 * n) ∙ rw (half-digit true m, half-digit true n, e) (omega arith)
-and-digit true false m n h e = never (h refl)
-and-digit false true m n h e = and-step (0 + 2 * m) (1 + 2 * n) ∙ rw (half-digit false m, half-digit true n, e) (omega arith)
-and-digit false false m n h e = and-step (0 + 2 * m) (0 + 2 * n) ∙ rw (half-digit false m, half-digit false n, e) (omega arith)
+noted-units : {A : Type 0} (f g : A → Bool) (l : List A) → bitAnd (number (map (λ x. g x && f x) l)) (number (map g l)) ≡ number (map (λ x. g x && f x) l)
+noted-units {A = A} f g l = number-and (λ x. g x && f x) g l ∙ twice l
+  where
+    once : (p q : Bool) → (p && (p && q)) ≡ (p && q)
+    once true q = refl
+    once false q = refl
 
-number-and : {A : Type 0} (f g : A → Bool) (l : List A) → bitAnd (number (map (λ x. g x && f x) l)) (number (map g l)) ≡ number (map (λ x. g x && f x) l)
-number-and f g [] = refl
-number-and f g (x ∷ l) = and-digit (g x && f x) (g x) (number (map (λ y. g y && f y) l)) (number (map g l)) (λ h. and-split (g x) (f x) h .0) (number-and f g l)
+    twice : (l : List A) → number (map (λ x. g x && (g x && f x)) l) ≡ number (map (λ x. g x && f x) l)
+    twice [] = refl
+    twice (x ∷ l) = ap₂ (λ (b : Bool) (n : ℕ). cond b 1 0 + 2 * n) (once (g x) (f x)) (twice l)
 
 met-units : (words : List ℕ) (u h : ℕ) → bitAnd (metOf words u h) (unitsOf (decode words)) ≡ metOf words u h
 unfolding metOf
@@ -73,7 +80,7 @@ met-units words u h = by-test (lengthOk (length words)) (λ p. rw p (go (decode 
   where
     go : (t : Option Term) → bitAnd (metIn t u h) (unitsOf t) ≡ metIn t u h
     go none = refl
-    go (some φ) = number-and (λ ψ. meets ψ u h) unit (subterms φ)
+    go (some φ) = noted-units (λ ψ. meets ψ u h) unit (subterms φ)
 
 -- ── rows below their limit ──
 set-below : (r n h : ℕ) → r < n → h < 2 ^ n → setBit r h < 2 ^ n
@@ -104,6 +111,7 @@ module _ (c : Configuration) (f : ConfigurationFormed c) where
         (and-join (eqb (length (assignment c)) (c .users)) (all below (put (assignment c) u h)) (rows-each .0)
         (all-put below (assignment c) u h (rows-each .1) (lt-so h (2 ^ (c .roles)) b)));
     rows-zero = rw (drop-set-lt (c .users) (c .«user_roles») u h l) (f .rows-zero);
+    permissions-zero = f .permissions-zero;
   }
 
 -- ── an instance over a configuration with another row, and with one more action ──
@@ -116,26 +124,29 @@ module _ (c : Configuration) (i : Instance) (f : InstanceFormed c i) where
     actions-ok = f .actions-ok;
     words-zero = f .words-zero;
     places-idle = f .places-idle;
+    placed = f .placed;
   }
 
-  action-formed : (u : ℕ) → u < c .users → i .taken < 12 → length (i .actions) ≡ 12 → InstanceFormed c (withAction i (notedFor c i u))
-  action-formed u l free n = record {
+  action-formed : (u a : ℕ) → u < c .users → So (isSomewhere (leadsTo i a)) → i .taken < 12 → length (i .actions) ≡ 12
+      → InstanceFormed c (withAction i (notedFor c i u) (stateOf (leadsTo i a)))
+  action-formed u a l goes free n = record {
     words-most = f .words-most;
     read = f .read;
     taken-most = omega arith;
     actions-ok =
-        let a = notedFor c i u in
+        let x = notedFor c i u in
         let units = unitsOf (decode (policyOf i)) in
         let ok = actionOk (c .users) units in
-        let own = and-join (ltb u (c .users)) (eqb (bitAnd (a .met) units) (a .met)) (lt-so u (c .users) l)
-        (eq-so (bitAnd (a .met) units) (a .met) (met-units (policyOf i) u (held c u))) in
-        rw (taken-more i a (omega arith)) (all-parts ok (split-append (takenOf i) (a ∷ [])) (f .actions-ok) (and-join (ok a) true own refl));
+        let own = and-join (ltb u (c .users)) (eqb (bitAnd (x .met) units) (x .met)) (lt-so u (c .users) l)
+        (eq-so (bitAnd (x .met) units) (x .met) (met-units (policyOf i) u (held c u))) in
+        rw (taken-more i x (stateOf (leadsTo i a)) (omega arith)) (all-parts ok (split-append (takenOf i) (x ∷ [])) (f .actions-ok) (and-join (ok x) true own refl));
     words-zero = f .words-zero;
     places-idle =
         let t = i .taken in
         let within : t < length (i .actions) = omega arith in
         rw (drop-set-lt (t + 1) (i .actions) t (notedFor c i u) (omega arith), add-one)
         (and-split (isIdle (getD (i .actions) t noAction)) (all isIdle (drop (suc t) (i .actions))) (rw (drop-cons (i .actions) t noAction within) at (f .places-idle)) .1);
+    placed = step-stays-placed c i (notedFor c i u) a (f .placed) goes;
   }
 
 -- ── the statements ──
@@ -143,11 +154,18 @@ zeros : (k : ℕ) → So (all isZero (replicate k 0))
 zeros k = all-replicate isZero k 0 refl
 
 module _ (o : Opening) (e : openCode o ≡ 0) where
-  opened-configuration : ConfigurationFormed (configurationOf (o .users) (o .roles) (o .rows))
+  abbrev over : Configuration
+  over = withPermissions (configurationOf (o .users) (o .roles) (o .rows)) (secure o .permissions)
+
+  read : Read (o .roles) (o .permissions) (o .workflow)
+  read = read-is-formed (o .roles) (o .permissions) (o .workflow)
+
+  opened-configuration : ConfigurationFormed over
   opened-configuration = record {
     counts = opens-read o e .counts;
     rows-ok = rw rows-taken (opened-rows-ok o e);
     rows-zero = rw (← n, drop-append-seam (o .rows) (replicate (16 - length (o .rows)) 0)) (zeros (16 - length (o .rows)));
+    permissions-zero = read .past;
   }
     where
       n : length (o .rows) ≡ o .users
@@ -156,7 +174,17 @@ module _ (o : Opening) (e : openCode o ≡ 0) where
       rows-taken : take (o .users) (padded 16 (o .rows)) ≡ o .rows
       rows-taken = ap (λ (k : ℕ). take k (padded 16 (o .rows))) (sym n) ∙ take-append-seam (o .rows) (replicate (16 - length (o .rows)) 0)
 
-  opened-instance : InstanceFormed (configurationOf (o .users) (o .roles) (o .rows)) (instanceOf (o .words))
+  opened-placed : So (isPlaced over (instanceOf (o .words) (secure o .workflow)))
+  opened-placed = and-join (workflowOk (secure o .workflow)) (state-ok (isGiven (secure o .workflow))) (read .formed)
+      (by-test (isGiven (secure o .workflow)) (λ g. rw g (lt-so 0 (secure o .workflow .states) (given-some (secure o .workflow) g))) (λ g. rw g (read .without g)))
+    where
+      state-ok : Bool → Bool
+      state-ok b = cond b (ltb 0 (secure o .workflow .states)) (true && all isZero (secure o .permissions))
+
+      given-some : (w : Workflow) → So (isGiven w) → 0 < w .states
+      given-some w g = let ne = eqb-false (w .states) 0 (not-true (eqb (w .states) 0) g) in omega (arith, ne)
+
+  opened-instance : InstanceFormed over (instanceOf (o .words) (secure o .workflow))
   opened-instance = record {
     words-most = words-few (o .words) (opens-read o e);
     read = rw (take-append-seam (o .words) (replicate (31 - length (o .words)) 0)) (clear-code (policy-refusals o) (opens-clear o e));
@@ -164,6 +192,7 @@ module _ (o : Opening) (e : openCode o ≡ 0) where
     actions-ok = refl;
     words-zero = rw (drop-append-seam (o .words) (replicate (31 - length (o .words)) 0)) (zeros (31 - length (o .words)));
     places-idle = refl;
+    placed = opened-placed;
   }
 
 pub opened-is-well-formed : OpenedIsWellFormed
@@ -183,7 +212,8 @@ accepted-stays-well-formed m w before n z =
         let k = clear (ownRefusals (m .configuration) (m .instance) (Acts u a)) refl (p .own) in
         record {
           in-configuration = f .in-configuration;
-          in-instance = action-formed (m .configuration) (m .instance) (f .in-instance) u d (omega (arith, leb-false 12 (m .instance .taken) (k .0))) n;
+          in-instance = action-formed (m .configuration) (m .instance) (f .in-instance) u a d (not-false (isSomewhere (leadsTo (m .instance) a)) (k .1 .0))
+              (omega (arith, leb-false 12 (m .instance .taken) (k .1 .1 .0))) n;
         }
     go (Grants u r) p f d =
         let c = m .configuration in
@@ -206,6 +236,7 @@ accepted-stays-well-formed m w before n z =
         actions-ok = f .in-instance .actions-ok;
         words-zero = f .in-instance .words-zero;
         places-idle = f .in-instance .places-idle;
+        placed = f .in-instance .placed;
       };
     }
     go Malformed p f d = absurd d

@@ -15,6 +15,7 @@ use Rattle.monitor.specs.declared.Event.{Event}
 use Rattle.monitor.specs.declared.Event.the-variants.{Acts, Grants, Revokes, Closes, Malformed}
 use Rattle.instance.specs.Configurations.{held}
 use Rattle.instance.specs.Instances.{isClosed, noAction, notedFor}
+use Rattle.instance.specs.Steps.{leadsTo, stateOf}
 use Rattle.monitor.specs.Monitors.{Opening, openCode, fresh, wellFormed}
 use Rattle.monitor.specs.Events.{eventIn, applied, outcome}
 
@@ -25,9 +26,11 @@ policyIn i = (i .policy, i .words)
 abbrev pub place : Instance → ℕ → Action
 place i k = getD (i .actions) k noAction
 
--- j is i with the action a at the next place, and one more in number
-pub record ActionAlone (i : Instance) (a : Action) (j : Instance) : Type 0 where
+-- j is i with the action a at the next place, one more in number, and the workflow in state s
+pub record ActionAlone (i : Instance) (a : Action) (s : ℕ) (j : Instance) : Type 0 where
   pub same-policy : policyIn j ≡ policyIn i
+  pub same-workflow : j .workflow ≡ i .workflow
+  pub moved : j .state ≡ s
   pub same-mark : j .closed ≡ i .closed
   pub one-more : j .taken ≡ i .taken + 1
   pub here : place j (i .taken) ≡ a
@@ -36,12 +39,15 @@ pub record ActionAlone (i : Instance) (a : Action) (j : Instance) : Type 0 where
 -- j is i with the mark set
 pub record MarkAlone (i j : Instance) : Type 0 where
   pub same-policy : policyIn j ≡ policyIn i
+  pub same-workflow : j .workflow ≡ i .workflow
+  pub same-state : j .state ≡ i .state
   pub same-actions : j .actions ≡ i .actions
   pub same-number : j .taken ≡ i .taken
   pub here : isClosed j ≡ true
 
 -- d is c with the bit of role r in the row of user u as it is to be, b
 pub record BitAlone (c : Configuration) (u r : ℕ) (b : Bool) (d : Configuration) : Type 0 where
+  pub same-permissions : d .permissions ≡ c .permissions
   pub same-users : d .users ≡ c .users
   pub same-roles : d .roles ≡ c .roles
   pub here : assigned (d .«user_roles») u r ≡ b
@@ -50,7 +56,9 @@ pub record BitAlone (c : Configuration) (u r : ℕ) (b : Bool) (d : Configuratio
 
 -- an event's own part
 abbrev pub OwnPart : Monitor → Event → Monitor → Type 0
-OwnPart m (Acts u a) l = (l .configuration ≡ m .configuration) × ActionAlone (m .instance) (notedFor (m .configuration) (m .instance) u) (l .instance)
+OwnPart m (Acts u a) l =
+    (l .configuration ≡ m .configuration)
+    × ActionAlone (m .instance) (notedFor (m .configuration) (m .instance) u) (stateOf (leadsTo (m .instance) a)) (l .instance)
 OwnPart m (Grants u r) l = (l .instance ≡ m .instance) × BitAlone (m .configuration) u r true (l .configuration)
 OwnPart m (Revokes u r) l = (l .instance ≡ m .instance) × BitAlone (m .configuration) u r false (l .configuration)
 OwnPart m Closes l = (l .configuration ≡ m .configuration) × MarkAlone (m .instance) (l .instance)

@@ -17,6 +17,7 @@ use Rattle.monitor.specs.declared.Event.{Event}
 use Rattle.monitor.specs.declared.Event.the-variants.{Acts, Grants, Revokes, Closes, Malformed}
 use Rattle.instance.specs.Configurations.{withGrant, withoutGrant}
 use Rattle.instance.specs.Instances.{takenOf, term, isClosed, notedFor, withAction, asClosed}
+use Rattle.instance.specs.Steps.{leadsTo, stepRefusals, stateOf, isFinal}
 use Rattle.monitor.specs.Monitors.{admission}
 
 -- ── the word ──
@@ -45,7 +46,7 @@ isMalformed (Revokes u r) = false
 isMalformed Closes = false
 isMalformed Malformed = true
 
--- ── the refusals: 12, 15, then 10, 7, then 8, 9 or 11 ──
+-- ── the refusals: 12, 15, then 10, 7, then 16, 17, 8, 9 or 11 ──
 -- all taken actions with one more by user u
 abbrev pub tried : Configuration → Instance → ℕ → List Action
 tried c i u = takenOf i ++ (notedFor c i u ∷ [])
@@ -53,11 +54,15 @@ tried c i u = takenOf i ++ (notedFor c i u ∷ [])
 abbrev pub entry : Instance → Event → List (Bool × ℕ)
 entry i e = (isClosed i gives CLOSED) ∷ (isMalformed e gives MALFORMED) ∷ []
 
+-- 8, 9
+abbrev pub trialRefusals : Configuration → Instance → ℕ → List (Bool × ℕ)
+trialRefusals c i u = (leb 12 (i .taken) gives FULL) ∷ (not (possible (term i) 0 (tried c i u)) gives NOT-POSSIBLE) ∷ []
+
 abbrev pub ownRefusals : Configuration → Instance → Event → List (Bool × ℕ)
-ownRefusals c i (Acts u a) = (leb 12 (i .taken) gives FULL) ∷ (not (possible (term i) 0 (tried c i u)) gives NOT-POSSIBLE) ∷ []
+ownRefusals c i (Acts u a) = stepRefusals c i u a ++ trialRefusals c i u
 ownRefusals c i (Grants u r) = []
 ownRefusals c i (Revokes u r) = []
-ownRefusals c i Closes = (not (satisfied (term i) 0 (takenOf i)) gives NOT-SATISFIED) ∷ []
+ownRefusals c i Closes = (not (satisfied (term i) 0 (takenOf i) && isFinal i) gives NOT-SATISFIED) ∷ []
 ownRefusals c i Malformed = []
 
 -- n is the length of the workspace
@@ -74,7 +79,7 @@ configured c Closes = c
 configured c Malformed = c
 
 abbrev pub advanced : Configuration → Instance → Event → Instance
-advanced c i (Acts u a) = withAction i (notedFor c i u)
+advanced c i (Acts u a) = withAction i (notedFor c i u) (stateOf (leadsTo i a))
 advanced c i (Grants u r) = i
 advanced c i (Revokes u r) = i
 advanced c i Closes = asClosed i

@@ -4,35 +4,52 @@ use mathlib.Core.List.{List, [], _∷_, _++_}
 use Prim.Native.Nat.{ℕ}
 use lib.Dec.{ltb, eqb}
 use Rattle.soda.specs.Terms.{Term}
-use Rattle.policy.specs.Codes.{WORKSPACE, MONITOR}
+use Rattle.policy.specs.Codes.{WORKFLOW, WORKSPACE, MONITOR}
 use Rattle.policy.specs.Refusals.{_gives_, code}
 use Rattle.policy.specs.Words.{decode, termOf}
 use Rattle.policy.specs.Faults.{codeAt}
 use Rattle.policy.specs.Reading.{refusals}
 use Rattle.policy.specs.declared.Code.{Code}
+use Rattle.workflow.specs.declared.SecureWorkflow.{SecureWorkflow}
+use Rattle.workflow.specs.Reading.{secureOk, secureOf}
 use Rattle.monitor.specs.declared.Monitor.{Monitor}
 use Rattle.monitor.specs.declared.Opened.{Opened}
-use Rattle.instance.specs.Configurations.{noConfiguration, configurationOf, rowRefusals, configurationOk}
+use Rattle.instance.specs.Configurations.{noConfiguration, configurationOf, withPermissions, rowRefusals, configurationOk}
 use Rattle.instance.specs.Instances.{noInstance, instanceOf, instanceOk}
 
 -- ── opening ──
--- what an opening is given: the counts, the policy's words and the grants
+-- what an opening is given: the counts, the policy's words, the grants, and the bytes of the permissions and of the workflow
 pub record Opening : Type 0 where
   pub users : ℕ
   pub roles : ℕ
   pub words : List ℕ
   pub rows : List ℕ
+  pub permissions : List ℕ
+  pub workflow : List ℕ
 
-abbrev pub given : ℕ → ℕ → List ℕ → List ℕ → Opening
-given users roles words rows = record { users = users; roles = roles; words = words; rows = rows }
+abbrev pub given : ℕ → ℕ → List ℕ → List ℕ → List ℕ → List ℕ → Opening
+given users roles words rows permissions workflow =
+    record { users = users; roles = roles; words = words; rows = rows; permissions = permissions; workflow = workflow }
+
+-- with neither permissions nor workflow
+abbrev pub bare : ℕ → ℕ → List ℕ → List ℕ → Opening
+bare users roles words rows = given users roles words rows [] []
 
 -- the term that its words are
 abbrev pub policy : Opening → Term
 policy o = termOf (decode (o .words))
 
--- 01's order: 5, 1, 2, 3, 4, 6
+-- its permissions and its workflow, as they are read
+abbrev pub secure : Opening → SecureWorkflow
+secure o = secureOf (o .roles) (o .permissions) (o .workflow)
+
+-- "19 follows 6 at opening"
+abbrev pub secureRefusals : Opening → List (Bool × ℕ)
+secureRefusals o = (not (secureOk (o .roles) (o .permissions) (o .workflow)) gives WORKFLOW) ∷ []
+
+-- 01's order with 02's 19: 5, 1, 2, 3, 4, 6, 19
 unfoldable pub openRefusals : Opening → List (Bool × ℕ)
-openRefusals o = refusals (o .users) (o .roles) (o .words) ++ rowRefusals (o .users) (o .roles) (o .rows)
+openRefusals o = refusals (o .users) (o .roles) (o .words) ++ (rowRefusals (o .users) (o .roles) (o .rows) ++ secureRefusals o)
 
 abbrev pub openCode : Opening → ℕ
 openCode o = code (openRefusals o)
@@ -47,7 +64,10 @@ blank = record { configuration = noConfiguration; instance = noInstance }
 
 -- an opened sheet
 unfoldable pub fresh : Opening → Monitor
-fresh o = record { configuration = configurationOf (o .users) (o .roles) (o .rows); instance = instanceOf (o .words) }
+fresh o = record {
+  configuration = withPermissions (configurationOf (o .users) (o .roles) (o .rows)) (secure o .permissions);
+  instance = instanceOf (o .words) (secure o .workflow);
+}
 
 -- what an opening leaves; a refused one hands back the blank sheet
 unfoldable pub opened : Opening → Monitor

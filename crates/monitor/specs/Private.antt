@@ -1,9 +1,9 @@
 -- What the monitor's private functions ask for and give.
 use mathlib.Core.Path.{_≡_}
-use mathlib.Core.Bool.{Bool, So, cond}
+use mathlib.Core.Bool.{Bool, So, _&&_, cond}
 use mathlib.Core.List.{List, map}
 use Prim.Native.Nat.{ℕ, _-_, _≤_, _<_}
-use lib.Dec.{ltb, eqb}
+use lib.Dec.{leb, ltb, eqb}
 use lib.ListN.{length}
 use Rattle.soda.specs.Bits.{number}
 use Rattle.soda.specs.Lists.{range}
@@ -18,10 +18,13 @@ use Rattle.monitor.specs.declared.Monitor.{Monitor}
 use Rattle.monitor.specs.declared.Event.{Event}
 use Rattle.monitor.specs.declared.Event.the-variants.{Acts, Grants, Revokes, Closes, Malformed}
 use Rattle.instance.specs.declared.Check.{Check}
+use Rattle.instance.specs.declared.Step.{Step}
+use Rattle.instance.specs.declared.Step.the-variants.{To, Refused}
 use Rattle.monitor.specs.declared.monitors.Admission.{Admission}
 use Rattle.instance.specs.Configurations.{held, configurationOk}
 use Rattle.monitor.specs.Monitors.{admission}
 use Rattle.instance.specs.Instances.{policyOf, takenOf, term, notedFor, withAction, instanceOk}
+use Rattle.instance.specs.Candidates.{isCandidate, candidatesOf}
 use Rattle.monitor.specs.Events.{tried, ownRefusals, advanced, applied, workspaceAfter, Outcome}
 use Rattle.monitor.specs.Statuses.{letterOf}
 
@@ -44,11 +47,14 @@ pub record Fillable (i : Instance) (before : List ℕ) : Type 0 where
   pub words-most : i .words ≤ 31
   pub fills : So (isFilled (policyOf i) (i .actions) (i .taken) before)
 
--- one more action by each user tried behind the taken ones: who can act, and the workspace that speaks of the last user's trial; twelve
--- actions leave nobody, and the workspace as it was
-abbrev pub eachTried : Configuration → Instance → List ℕ → Trials
-eachTried c i before = cond (ltb (i .taken) 12)
-    (record { mask = number (map (λ u. possible (term i) 0 (tried c i u)) (range 0 (c .users))); workspace = filled (term i) (tried c i (c .users - 1)) before })
+-- one more action by each candidate tried behind the taken ones: who can act, and the workspace that speaks of the last candidate's trial;
+-- where there is no candidate, and with twelve actions, nobody, and the workspace as it was
+abbrev pub eachTried : Configuration → Instance → ℕ → List ℕ → Trials
+eachTried c i a before = cond (ltb (i .taken) 12 && leb 1 (candidatesOf c i a .behind))
+    (record {
+      mask = number (map (λ u. isCandidate c i a u && possible (term i) 0 (tried c i u)) (range 0 (c .users)));
+      workspace = filled (term i) (tried c i (candidatesOf c i a .behind - 1)) before;
+    })
     (record { mask = 0; workspace = before })
 
 -- the taken actions evaluated: what holds of them, and the workspace that speaks of them
@@ -93,9 +99,9 @@ pub record Stated (i : Instance) (number letter : ℕ) (before after : List ℕ)
   pub is-letter : letter ≡ letterOf i
   pub workspace : after ≡ filled (term i) (takenOf i) before
 
--- one more action tried: the instance with it, whether the actions are possible, and the workspace that speaks of them
-pub record Trial (c : Configuration) (i : Instance) (u : ℕ) (with-it : Instance) (isPossible : Bool) (before after : List ℕ) : Type 0 where
-  pub is-with : with-it ≡ withAction i (notedFor c i u)
+-- one more action tried, which leads to state s: the instance with it, whether the actions are possible, and the workspace that speaks of them
+pub record Trial (c : Configuration) (i : Instance) (u s : ℕ) (with-it : Instance) (isPossible : Bool) (before after : List ℕ) : Type 0 where
+  pub is-with : with-it ≡ withAction i (notedFor c i u) s
   pub is-possible : isPossible ≡ possible (term i) 0 (tried c i u)
   pub workspace : after ≡ filled (term i) (tried c i u) before
 
@@ -112,9 +118,10 @@ ownOutcome c i e before = record {
   workspace = workspaceAfter c i e (code (ownRefusals c i e)) before;
 }
 
--- an action by user u, whatever its number
-abbrev pub Acted : Configuration → Instance → ℕ → List ℕ → InstanceOutcome → Type 0
-Acted c i u before r = (a : ℕ) → r ≡ ownOutcome c i (Acts u a) before
+-- the number of a step; 0 if it is not refused
+abbrev pub stepNumber : Step → ℕ
+stepNumber (To s) = 0
+stepNumber (Refused k) = k
 
 -- what an event gives to such a monitor
 abbrev pub monitorOutcome : Monitor → Event → List ℕ → Outcome

@@ -5,25 +5,25 @@ use super::Event;
 use policy::kinds;
 
 // An event by its kind, its user and its lowest byte.
-fn event_of(users: u16, roles: u16, kind: u32, user: u8, low: u8) -> Event
+fn event_of(users: u32, roles: u32, kind: u32, user: u8, low: u8) -> Event
     ensures { λ r. ⌜ r ≡ eventOf users roles kind user low ⌝ }
 {
     if kind == kinds::ACTION {
-        return if (user as u16) < users {
+        return if (user as u32) < users {
             Event::Acts(user, low)
         } else {
             Event::Malformed
         };
     }
     if kind == kinds::GRANT {
-        return if ((user as u16) < users) & ((low as u16) < roles) {
+        return if ((user as u32) < users) & ((low as u32) < roles) {
             Event::Grants(user, low)
         } else {
             Event::Malformed
         };
     }
     if kind == kinds::REVOKE {
-        return if ((user as u16) < users) & ((low as u16) < roles) {
+        return if ((user as u32) < users) & ((low as u32) < roles) {
             Event::Revokes(user, low)
         } else {
             Event::Malformed
@@ -40,7 +40,7 @@ fn event_of(users: u16, roles: u16, kind: u32, user: u8, low: u8) -> Event
 }
 
 // Reads an event's word.
-pub(crate) fn read_event(users: u16, roles: u16, word: u32) -> Event
+pub(crate) fn read_event(users: u32, roles: u32, word: u32) -> Event
     ensures { λ r. ⌜ r ≡ readEvent users roles word ⌝ }
 {
     if (word >> 16) & 255 != 0 {

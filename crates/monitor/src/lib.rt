@@ -16,17 +16,17 @@ pub struct Monitor {
     pub instance: Instance,
 }
 
-// What an opening answers: its code, and the monitor that it leaves.
+// What an opening answers: its code, and the monitor that it leaves. The code stands last, as in `Configured`.
 pub struct Opened {
-    pub code: Code,
     pub monitor: Monitor,
+    pub code: Code,
 }
 
-// What an event answers: its number, and the monitor that it leaves.
+// What an event answers: its number, and the monitor that it leaves. The number stands last, as in `Configured`.
 #[repr(C)]
 pub struct Answer {
-    pub code: u8,
     pub monitor: Monitor,
+    pub code: u8,
 }
 
 // An event's word, read: a user executes an action with a number, is granted a role or has one revoked, or the instance is closed. A

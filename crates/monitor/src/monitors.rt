@@ -24,9 +24,17 @@ impl Monitor {
         instance: Instance::BLANK,
     };
 
-    // Opens a monitor under a policy: 0 and the monitor, or another code and the blank one.
-    pub fn open(users: u8, roles: u8, words: &[u32], rows: &[u16]) -> Opened
-        ensures { λ r. ⌜ r ≡ opening (given users roles (now (words .entry)) (now (rows .entry))) ⌝ }
+    // Opens a monitor under a policy, with permissions and a workflow if they are given: 0 and the monitor, or another code and the blank
+    // one.
+    pub fn open(
+        users: u8,
+        roles: u8,
+        words: &[u32],
+        rows: &[u16],
+        permissions: &[u8],
+        workflow: &[u8],
+    ) -> Opened
+        ensures { λ r. ⌜ r ≡ opening (given users roles (now (words .entry)) (now (rows .entry)) (now (permissions .entry)) (now (workflow .entry))) ⌝ }
     {
         let read = policy::read(users, roles, words);
         let PolicyRead::Accepted {
@@ -41,8 +49,15 @@ impl Monitor {
         if code != codes::ACCEPTED {
             return refused(Code::Plain(code));
         }
-        let configuration = configured.configuration;
-        let instance = Instance::under(&words[..count]);
+        let secure = workflow::read(roles, permissions, workflow);
+        if !secure.accepted {
+            return refused(Code::Plain(codes::WORKFLOW));
+        }
+        let bare = configured.configuration;
+        let permitted = secure.permissions;
+        let configuration = bare.with_permissions(permitted);
+        let ordered = secure.workflow;
+        let instance = Instance::under(&words[..count], ordered);
         Opened {
             code: Code::Plain(code),
             monitor: Monitor {

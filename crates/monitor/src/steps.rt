@@ -2,9 +2,9 @@
 ghost use mathlib.Core.Path.{_≡_};
 ghost use Prim.Native.Nat.{_<_};
 ghost use Rattle.policy.specs.Refusals.{code};
-ghost use Rattle.monitor.specs.declared.Event.the-variants.{Closes};
+ghost use Rattle.monitor.specs.declared.Event.the-variants.{Acts, Closes};
 ghost use Rattle.monitor.specs.Events.{entry, outcome};
-ghost use Rattle.monitor.specs.Private.{Admitted, Trial, Acted, Entered, actor, Meets, Noting, ownOutcome, monitorOutcome};
+ghost use Rattle.monitor.specs.Private.{Admitted, Trial, stepNumber, Entered, actor, Meets, Noting, ownOutcome, monitorOutcome};
 use super::Answer;
 use super::Event;
 use super::Monitor;
@@ -12,6 +12,7 @@ use super::evaluation::evaluate;
 use super::events::read_event;
 use instance::Configuration;
 use instance::Instance;
+use instance::Step;
 use policy::codes;
 use soda::Action;
 
@@ -50,18 +51,19 @@ struct Tried {
     possible: bool,
 }
 
-// Tries an action by this user, who meets these unit terms: the workspace speaks of the actions with it.
+// Tries an action by this user, who meets these unit terms, that leads to this state: the workspace speaks of the actions with it.
 fn try_action(
     configuration: Configuration,
     instance: Instance,
     user: u8,
     met: u32,
+    state: u8,
     workspace: &mut [u32],
 ) -> Tried
     requires { ⌜ Admitted configuration instance (now workspace) × (instance .taken < 12) × (user < configuration .users) × Meets configuration instance user met ⌝ }
-    ensures { λ r. ⌜ Trial configuration instance user (r .instance) (r .possible) (now (workspace .entry)) (now (workspace .exit)) ⌝ }
+    ensures { λ r. ⌜ Trial configuration instance user state (r .instance) (r .possible) (now (workspace .entry)) (now (workspace .exit)) ⌝ }
 {
-    let tried = instance.with_action(Action::new(user, met));
+    let tried = instance.with_action(Action::new(user, met), state);
     let evaluation = evaluate(tried, workspace);
     Tried {
         instance: tried,
@@ -71,28 +73,46 @@ fn try_action(
 
 // An event's number, and the instance that it leaves.
 struct Moved {
-    code: u8,
     instance: Instance,
+    code: u8,
 }
 
-// An action by a declared user, who meets these unit terms.
+// The number of a step; 0 if it is not refused.
+fn refusal_of(step: Step) -> u8
+    ensures { λ r. ⌜ r ≡ stepNumber step ⌝ }
+{
+    match step {
+        Step::To(_) => codes::ACCEPTED,
+        Step::Refused(code) => code,
+    }
+}
+
+// An action with this number by a declared user, who meets these unit terms.
 fn act(
     configuration: Configuration,
     instance: Instance,
     user: u8,
+    action: u8,
     met: u32,
     workspace: &mut [u32],
 ) -> Moved
     requires { ⌜ Admitted configuration instance (now workspace) × (user < configuration .users) × Meets configuration instance user met ⌝ }
-    ensures { λ r. ⌜ Acted configuration instance user (now (workspace .entry)) (record { code = r .code; instance = r .instance; workspace = now (workspace .exit) }) ⌝ }
+    ensures { λ r. ⌜ record { code = r .code; instance = r .instance; workspace = now (workspace .exit) } ≡ ownOutcome configuration instance (Acts user action) (now (workspace .entry)) ⌝ }
 {
+    let step = instance.step(configuration, user, action);
+    let Step::To(state) = step else {
+        return Moved {
+            code: refusal_of(step),
+            instance,
+        };
+    };
     if 12 <= instance.taken {
         return Moved {
             code: codes::FULL,
             instance,
         };
     }
-    let tried = try_action(configuration, instance, user, met, workspace);
+    let tried = try_action(configuration, instance, user, met, state, workspace);
     if !tried.possible {
         return Moved {
             code: codes::NOT_POSSIBLE,
@@ -113,6 +133,12 @@ fn close(configuration: Configuration, instance: Instance, workspace: &mut [u32]
 {
     let evaluation = evaluate(instance, workspace);
     if !evaluation.satisfied {
+        return Moved {
+            code: codes::NOT_SATISFIED,
+            instance,
+        };
+    }
+    if !instance.is_final() {
         return Moved {
             code: codes::NOT_SATISFIED,
             instance,
@@ -145,8 +171,8 @@ fn perform(monitor: Monitor, event: Event, met: u32, workspace: &mut [u32]) -> A
     let configuration = monitor.configuration;
     let instance = monitor.instance;
     match event {
-        Event::Acts(user, _) => {
-            let moved = act(configuration, instance, user, met, workspace);
+        Event::Acts(user, action) => {
+            let moved = act(configuration, instance, user, action, met, workspace);
             let next = moved.instance;
             answer(moved.code, configuration, next)
         }

@@ -8,26 +8,33 @@ use instance::Configuration;
 use instance::Instance;
 use policy::codes;
 
-// Which declared users' actions are possible with the taken ones: bit u for user u. The workspace speaks of those with the last
-// user's; none, and it is as it was, where twelve are taken.
-fn try_all(configuration: Configuration, instance: Instance, workspace: &mut [u32]) -> u16
+// Which candidates' actions with this number are possible with the taken ones: bit u for user u. The workspace speaks of those with the
+// last candidate's; nobody, and it is as it was, where there is none or twelve are taken.
+fn try_all(
+    configuration: Configuration,
+    instance: Instance,
+    action: u8,
+    workspace: &mut [u32],
+) -> u16
     requires { ⌜ Admitted configuration instance (now workspace) ⌝ }
-    ensures { λ r. ⌜ record { mask = r; workspace = now (workspace .exit) } ≡ eachTried configuration instance (now (workspace .entry)) ⌝ }
+    ensures { λ r. ⌜ record { mask = r; workspace = now (workspace .exit) } ≡ eachTried configuration instance action (now (workspace .entry)) ⌝ }
 {
+    let candidates = instance.candidates(configuration, action);
+    let behind = candidates.behind as usize;
     let policy = instance.policy;
     let words = &policy[..instance.words as usize];
     let rows = configuration.user_roles;
-    let users = configuration.users as usize;
-    let met = units::met_each(words, &rows[..users]);
+    let met = units::met_each(words, &rows[..behind]);
     let actions = instance.actions;
-    workspace::try_users(words, actions, instance.taken, &met[..users], workspace)
+    let possible = workspace::try_users(words, actions, instance.taken, &met[..behind], workspace);
+    possible & candidates.users
 }
 
 impl Monitor {
-    // The users whose action would be accepted. The workspace speaks of the trial of the last user; a closed monitor and one with
-    // twelve actions have none, and leave it as it was.
-    pub fn enabled(self, workspace: &mut [u32]) -> Enabled
-        ensures { λ r. ⌜ record { answer = r; workspace = now (workspace .exit) } ≡ enabledOf self (now (workspace .entry)) ⌝ }
+    // The users whose action with this number would be accepted. The workspace speaks of the trial of the last user for whom permissions
+    // and workflow have no refusal; without such a user, on a closed monitor and on one with twelve actions it is left as it was.
+    pub fn enabled(self, action: u8, workspace: &mut [u32]) -> Enabled
+        ensures { λ r. ⌜ record { answer = r; workspace = now (workspace .exit) } ≡ enabledOf self action (now (workspace .entry)) ⌝ }
     {
         let admission = self.admit(workspace.len(), 0);
         let refusal = admission.code;
@@ -39,6 +46,6 @@ impl Monitor {
             return Enabled::Users(0);
         }
         let configuration = self.configuration;
-        Enabled::Users(try_all(configuration, instance, workspace))
+        Enabled::Users(try_all(configuration, instance, action, workspace))
     }
 }

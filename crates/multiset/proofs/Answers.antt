@@ -26,7 +26,7 @@ use Rattle.instance.specs.Configurations.{isZero}
 use Rattle.monitor.specs.Monitors.{Opening, policy, openRefusals, openCode, codeIn}
 use Rattle.instance.proofs.Formed.{one-each}
 use Rattle.monitor.proofs.Formed.{opened-rows-ok, opened-is-policy}
-use Rattle.multiset.specs.MultisetTest.{verdictCode, verdictLetter, total, listed, notedBy, testRefusals, testCode, testOf, Numbered}
+use Rattle.multiset.specs.MultisetTest.{verdictCode, verdictLetter, total, listed, notedBy, unordered, testRefusals, testCode, testOf, Numbered}
 use Rattle.multiset.specs.Private.{Counted, used, Holds, Fillable}
 use Rattle.multiset.specs.declared.Actions.{Actions}
 use Rattle.multiset.specs.declared.Verdict.{Verdict}
@@ -35,13 +35,13 @@ use Rattle.multiset.proofs.Listed.{listed-length, listed-below}
 
 module _ (o : Opening) (counts : List ℕ) where
   -- ── a multiset's actions, where the opening is accepted ──
-  module _ (e : openCode o ≡ 0) (few : total counts ≤ 12) where
+  module _ (e : openCode (unordered o) ≡ 0) (few : total counts ≤ 12) where
     one-row : length (o .rows) ≡ o .users
-    one-row = one-each (o .users) (o .roles) (o .rows) (opened-rows-ok o e)
+    one-row = one-each (o .users) (o .roles) (o .rows) (opened-rows-ok (unordered o) e)
 
     pub counted : total (drop (o .users) counts) ≡ 0 → Counted (o .rows) counts
     counted d = record {
-      rows-most = omega (arith, one-row, counts-most (o .users) (o .roles) (opened-is-policy o e .counts) .0);
+      rows-most = omega (arith, one-row, counts-most (o .users) (o .roles) (opened-is-policy (unordered o) e .counts) .0);
       few = few;
       declared = ap (λ (n : ℕ). total (drop n counts)) one-row ∙ d;
     }
@@ -59,7 +59,7 @@ module _ (o : Opening) (counts : List ℕ) where
           record {
             few = most;
             long = long;
-            fills = policy-is-filled (o .users) (o .roles) (o .words) (policy o) (a .places) (a .number) before (opened-is-policy o e) most (known n) long;
+            fills = policy-is-filled (o .users) (o .roles) (o .words) (policy o) (a .places) (a .number) before (opened-is-policy (unordered o) e) most (known n) long;
           }
 
   -- ── the refusals in order ──
@@ -68,16 +68,16 @@ module _ (o : Opening) (counts : List ℕ) where
     own = (not (all isZero (drop (o .users) counts)) gives MALFORMED) ∷ (ltb 12 (total counts) gives FULL) ∷ []
 
     -- the workspace is long enough: the opening's number, or, where that is 0, one of the test's own
-    code-long : ltb (length before) 8192 ≡ false → testCode o counts (length before) ≡ code (openRefusals o ++ own)
+    code-long : ltb (length before) 8192 ≡ false → testCode o counts (length before) ≡ code (openRefusals (unordered o) ++ own)
     unfolding testRefusals
     code-long h = rw h
 
-    pub code-opening : ltb (length before) 8192 ≡ false → openCode o ≢ 0 → testCode o counts (length before) ≡ openCode o
-    code-opening h ne = code-long h ∙ code-front (openRefusals o) own ne
+    pub code-opening : ltb (length before) 8192 ≡ false → openCode (unordered o) ≢ 0 → testCode o counts (length before) ≡ openCode (unordered o)
+    code-opening h ne = code-long h ∙ code-front (openRefusals (unordered o)) own ne
 
-    pub code-own : ltb (length before) 8192 ≡ false → openCode o ≡ 0 → testCode o counts (length before) ≡ code own
+    pub code-own : ltb (length before) 8192 ≡ false → openCode (unordered o) ≡ 0 → testCode o counts (length before) ≡ code own
     unfolding openRefusals
-    code-own h e = code-long h ∙ code-behind (openRefusals o) own (clear (openRefusals o) refl e)
+    code-own h e = code-long h ∙ code-behind (openRefusals (unordered o)) own (clear (openRefusals (unordered o)) refl e)
 
     -- ── what the test answers ──
     abbrev pub Answered : Verdict → List ℕ → Type 0

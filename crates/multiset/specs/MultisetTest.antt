@@ -17,7 +17,7 @@ use Rattle.policy.specs.declared.Code.the-variants.{Plain}
 use Rattle.workspace.specs.Workspace.{filled}
 use Rattle.instance.specs.Configurations.{isZero}
 use Rattle.instance.specs.Instances.{noted}
-use Rattle.monitor.specs.Monitors.{Opening, policy, openRefusals, codeIn}
+use Rattle.monitor.specs.Monitors.{Opening, bare, policy, openRefusals, codeIn}
 use Rattle.multiset.specs.declared.Verdict.{Verdict}
 use Rattle.multiset.specs.declared.Verdict.the-variants.{Yes, No, Refused}
 
@@ -52,11 +52,15 @@ listed u (k ∷ l) = replicate k u ++ listed (suc u) l
 abbrev pub notedBy : Opening → ℕ → Action
 notedBy o u = noted (o .words) u (roles (o .rows) u)
 
+-- It does not know permissions and workflow: its opening is one with neither.
+abbrev pub unordered : Opening → Opening
+unordered o = bare (o .users) (o .roles) (o .words) (o .rows)
+
 -- 12, the opening's order, 7, 8; n is the length of the workspace
 unfoldable pub testRefusals : Opening → List ℕ → ℕ → List (Bool × ℕ)
 testRefusals o counts n =
     (ltb n 8192 gives WORKSPACE)
-    ∷ (openRefusals o ++ ((not (all isZero (drop (o .users) counts)) gives MALFORMED) ∷ (ltb 12 (total counts) gives FULL) ∷ []))
+    ∷ (openRefusals (unordered o) ++ ((not (all isZero (drop (o .users) counts)) gives MALFORMED) ∷ (ltb 12 (total counts) gives FULL) ∷ []))
 
 abbrev pub testCode : Opening → List ℕ → ℕ → ℕ
 testCode o counts n = code (testRefusals o counts n)

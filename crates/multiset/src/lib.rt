@@ -5,7 +5,7 @@ ghost use Prim.Native.Nat.{_+_, _≤_};
 ghost use lib.ListN.{length, drop, replicate};
 ghost use Rattle.soda.specs.Roles.{roles};
 ghost use Rattle.instance.specs.Instances.{noted};
-ghost use Rattle.monitor.specs.Monitors.{given};
+ghost use Rattle.monitor.specs.Monitors.{bare, opening};
 ghost use Rattle.multiset.specs.MultisetTest.{verdictCode, verdictLetter, total, listed, testOf, Numbered};
 ghost use Rattle.multiset.specs.Private.{Counted, Holds, Added, Fillable, Evaluated};
 use monitor::Monitor;
@@ -90,6 +90,15 @@ fn evaluate(words: &[u32], actions: Actions, workspace: &mut [u32]) -> bool
     workspace[all] & 1 == 1
 }
 
+// The code of an opening with neither permissions nor workflow.
+fn open_bare(users: u8, roles: u8, words: &[u32], rows: &[u16]) -> Code
+    ensures { λ r. ⌜ r ≡ opening (bare users roles (now (words .entry)) (now (rows .entry))) .code ⌝ }
+{
+    let permissions = [0u8; 1];
+    let workflow = [0u8; 1];
+    Monitor::open(users, roles, words, rows, &permissions[..0], &workflow[..0]).code
+}
+
 // Whether the multiset of users, each as often as its count says, satisfies the policy. The workspace speaks of its actions.
 pub fn satisfies(
     users: u8,
@@ -99,12 +108,12 @@ pub fn satisfies(
     counts: [u8; 16],
     workspace: &mut [u32],
 ) -> Verdict
-    ensures { λ r. ⌜ (record { code = verdictCode r; letter = verdictLetter r } ≡ testOf (given users roles (now (words .entry)) (now (rows .entry))) counts (length (now (workspace .entry)))) × Numbered (given users roles (now (words .entry)) (now (rows .entry))) counts (now (workspace .entry)) (now (workspace .exit)) ⌝ }
+    ensures { λ r. ⌜ (record { code = verdictCode r; letter = verdictLetter r } ≡ testOf (bare users roles (now (words .entry)) (now (rows .entry))) counts (length (now (workspace .entry)))) × Numbered (bare users roles (now (words .entry)) (now (rows .entry))) counts (now (workspace .entry)) (now (workspace .exit)) ⌝ }
 {
     if workspace.len() < 8192 {
         return Verdict::Refused(Code::Plain(codes::WORKSPACE));
     }
-    let code = Monitor::open(users, roles, words, rows).code;
+    let code = open_bare(users, roles, words, rows);
     if policy::number_of(code) != codes::ACCEPTED {
         return Verdict::Refused(code);
     }

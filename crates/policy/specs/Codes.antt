@@ -1,4 +1,4 @@
--- Document 01's numbers ("Numbers, by who causes them"). src/codes.rt has the same under the same names, with _ for -.
+-- Document 01's numbers ("Numbers, by who causes them") and those that document 02 adds. src/codes.rt has the same under the same names, with _ for -.
 use Prim.Native.Nat.{ℕ}
 
 -- acceptance
@@ -31,6 +31,11 @@ COUNTS = 5
 abbrev pub ROWS : ℕ
 ROWS = 6
 
+-- permissions or workflow of a wrong length or with a count out of range, a state not declared, an action above 63, or two transitions with
+-- the same state and action; or one of the two without the other
+abbrev pub WORKFLOW : ℕ
+WORKFLOW = 19
+
 -- ── the clerk who sends events or multisets ──
 -- event word out of layout, or user or role not declared; in a multiset, a count above 0 for a user not declared
 abbrev pub MALFORMED : ℕ
@@ -48,9 +53,17 @@ NOT-POSSIBLE = 9
 abbrev pub CLOSED : ℕ
 CLOSED = 10
 
--- close, but not satisfied
+-- close, but not satisfied, or the workflow is in no final state
 abbrev pub NOT-SATISFIED : ℕ
 NOT-SATISFIED = 11
+
+-- no role that the user holds gives the action
+abbrev pub NOT-AUTHORIZED : ℕ
+NOT-AUTHORIZED = 16
+
+-- the workflow has no transition for the action from its present state
+abbrev pub NO-TRANSITION : ℕ
+NO-TRANSITION = 17
 
 -- ── the program that calls ──
 -- workspace below 8,192 words
@@ -66,6 +79,7 @@ abbrev pub CASE : ℕ
 CASE = 14
 
 -- monitor malformed: its policy, counts or role rows would be refused; above twelve actions; a user not declared; a bit at a word
--- that begins no unit term; an unused place, policy word or role row not zero
+-- that begins no unit term; an unused place, policy word or role row not zero; permissions, workflow or present state malformed, or unused
+-- ones not zero
 abbrev pub MONITOR : ℕ
 MONITOR = 15

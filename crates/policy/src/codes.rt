@@ -1,4 +1,4 @@
-// Document 01's numbers ("Numbers, by who causes them"). specs/Codes.antt has the same under the same names, with - for _.
+// Document 01's numbers ("Numbers, by who causes them") and those that document 02 adds. specs/Codes.antt has the same under the same names, with - for _.
 
 // Acceptance.
 pub const ACCEPTED: u8 = 0;
@@ -25,6 +25,10 @@ pub const COUNTS: u8 = 5;
 // Role rows not one a user, or a role not declared.
 pub const ROWS: u8 = 6;
 
+// Permissions or workflow of a wrong length or with a count out of range, a state not declared, an action above 63, or two transitions with
+// the same state and action; or one of the two without the other.
+pub const WORKFLOW: u8 = 19;
+
 // The clerk who sends events or multisets.
 
 // Event word out of layout, or user or role not declared; in a multiset, a count above 0 for a user not declared.
@@ -39,8 +43,14 @@ pub const NOT_POSSIBLE: u8 = 9;
 // The instance is closed.
 pub const CLOSED: u8 = 10;
 
-// Close, but not satisfied.
+// Close, but not satisfied, or the workflow is in no final state.
 pub const NOT_SATISFIED: u8 = 11;
+
+// No role that the user holds gives the action.
+pub const NOT_AUTHORIZED: u8 = 16;
+
+// The workflow has no transition for the action from its present state.
+pub const NO_TRANSITION: u8 = 17;
 
 // The program that calls.
 
@@ -54,5 +64,6 @@ pub const OUTPUT: u8 = 13;
 pub const CASE: u8 = 14;
 
 // Monitor malformed: its policy, counts or role rows would be refused; above twelve actions; a user not declared; a bit at a word
-// that begins no unit term; an unused place, policy word or role row not zero.
+// that begins no unit term; an unused place, policy word or role row not zero; permissions, workflow or present state malformed, or unused
+// ones not zero.
 pub const MONITOR: u8 = 15;

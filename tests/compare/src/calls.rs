@@ -7,6 +7,9 @@ mod multisets;
 mod normal_forms;
 mod openings;
 
+use oskhrein::raw::{Calls, Monitor};
+use reference::casefile::Case;
+
 use crate::faults::{Faults, Policy};
 use crate::lent::LentByte;
 use crate::library;
@@ -69,18 +72,30 @@ fn byte<T: Into<u8>>(answer: Result<T, u32>) -> u8 {
     }
 }
 
+/// The monitor of a case, opened by the product.
+fn opened(library: &Calls, case: &Case) -> Monitor {
+    let Case { users, roles, policy, user_roles, .. } = case;
+    let (permissions, workflow) = case.given();
+    let mut monitor = Monitor::BLANK;
+    library.open(&mut monitor, *users, *roles, policy, user_roles, permissions, workflow, &mut 0);
+    monitor
+}
+
 /// Compares each call on its edges and on so many random inputs.
 pub fn compare(seed: u64, count: usize) -> Result<Report, String> {
     let library = library::chosen()?;
     let (mut calls, mut kinds) = (Vec::new(), Vec::new());
-    for compare in [openings::compare, multisets::compare, normal_forms::compare] {
-        let Reader { call, faults, .. } = compare(&library, seed, count);
+    let (opened, refused) = openings::compare(&library, seed, count);
+    let tested = multisets::compare(&library, seed, count);
+    let written = normal_forms::compare(&library, seed, count);
+    for Reader { call, faults, .. } in [opened, tested, written] {
         calls.push(call);
         kinds.push(faults.seen());
     }
-    let (events, leavers) = events::compare(&library, seed, count);
+    kinds.push(refused);
+    let (events, tried) = events::compare(&library, seed, count);
     calls.extend(events);
-    kinds.push(leavers);
+    kinds.extend(tried);
     let (enabled, masks) = enabled::compare(&library, seed, count);
     calls.push(enabled);
     kinds.extend(masks);

@@ -1,7 +1,8 @@
 //! The judge program on random and damaged bytes.
 
 use reference::casefile::{join_parts, read_case, write_case};
-use reference::generate::{cases, edges, Random};
+use reference::generate::{cases, edges, secure, Random};
+use reference::secure::Given;
 
 use crate::judge::Judge;
 use crate::report::Report;
@@ -10,9 +11,11 @@ use crate::report::Report;
 type Kind = (&'static str, fn(&mut Random) -> Vec<u8>);
 
 /// All kinds.
-const KINDS: [Kind; 7] = [
+const KINDS: [Kind; 9] = [
     ("noise", noise),
     ("noise in parts", noise_in_parts),
+    ("noise in five parts", noise_in_five_parts),
+    ("likely workflows", likely_workflows),
     ("likely words", likely_words),
     ("flipped bits", flipped),
     ("damaged files", damaged),
@@ -55,7 +58,8 @@ fn noise(random: &mut Random) -> Vec<u8> {
     let length = random.below(length + 1);
     let mut bytes = random_bytes(random, length);
     if random.percent(50) && bytes.len() > 1 {
-        bytes[..2].copy_from_slice(&[12, 0]);
+        bytes[0] = random.pick(&[12, 12, 20]);
+        bytes[1] = 0;
     }
     bytes
 }
@@ -70,6 +74,31 @@ fn noise_in_parts(random: &mut Random) -> Vec<u8> {
     };
     let (policy, grants, events) = (part(4), part(2), part(4));
     join_parts(&policy, &[vec![2, 3], grants].concat(), &events)
+}
+
+/// The parts of a well-formed file with random bytes for permissions and workflow, most of them of
+/// lengths that are allowed.
+fn noise_in_five_parts(random: &mut Random) -> Vec<u8> {
+    let mut case = secure::case(random);
+    let count = random.below(6);
+    let mut workflow = random_bytes(random, 4 + 3 * count);
+    workflow[1] = count as u8;
+    let length = 8 * usize::from(case.roles) + usize::from(random.percent(5));
+    let permissions = random_bytes(random, length);
+    case.given = Some(Given { permissions, workflow });
+    write_case(&case)
+}
+
+/// The same with bytes that are likely to mean something.
+fn likely_workflows(random: &mut Random) -> Vec<u8> {
+    let mut case = secure::case(random);
+    let count = random.between(1, 6);
+    let mut workflow: Vec<u8> = (0..4 + 3 * count).map(|_| random.below(4) as u8).collect();
+    (workflow[0], workflow[1], workflow[3]) = (random.between(2, 4) as u8, count as u8, 0);
+    let permissions = vec![15; 8 * usize::from(case.roles)];
+    case.given = Some(Given { permissions, workflow });
+    case.events.iter_mut().filter(|word| **word >> 24 == 1).for_each(|word| *word &= 0xffff_ff03);
+    write_case(&case)
 }
 
 /// A word whose kind, user and role are likely to mean something.

@@ -6,16 +6,19 @@ use std::path::PathBuf;
 use std::process::{Command, ExitStatus, Stdio};
 
 use reference::casefile::{self, read_case, Case};
+use reference::code;
 use reference::generate::{cases, edges, NamedFile, Random};
 
 use crate::faults::{Faults, Policy};
 use crate::leavers::Leavers;
+use crate::refusals::{Files, Openings};
 use crate::report::{Group, Report, Seen};
+use crate::secure::Events;
 
 /// The numbers that refuse a case file or its opening.
-const REFUSALS: &[u8] = &[1, 2, 3, 4, 5, 6, 14];
+const REFUSALS: &[u8] = &[1, 2, 3, 4, 5, 6, 14, 19];
 /// The numbers that an event of a case file can get.
-const EVENTS: &[u8] = &[0, 7, 8, 9, 10, 11];
+const EVENTS: &[u8] = &[0, 7, 8, 9, 10, 11, 16, 17];
 /// The letters of the status.
 const LETTERS: &[u8] = b"cdo";
 
@@ -33,6 +36,9 @@ pub struct Judge {
     refusals: Seen,
     faults: Faults,
     leavers: Leavers,
+    secure: Events,
+    openings: Openings,
+    files: Files,
     events: Seen,
     letters: Seen,
 }
@@ -59,6 +65,9 @@ impl Judge {
             refusals: Seen::new("refused case files", wanted(REFUSALS)),
             faults: Faults::new("case files", every_number),
             leavers: Leavers::of_events("case files", every_number),
+            secure: Events::new("case files", every_number),
+            openings: Openings::new("case files", every_number),
+            files: Files::new("case files", every_number),
             events: Seen::new("events", wanted(EVENTS)),
             letters: Seen::new("statuses", wanted(LETTERS)),
         })
@@ -75,7 +84,10 @@ impl Judge {
         if let Ok(ran) = &ran {
             self.count(bytes, &ran.output);
         }
-        read_case(bytes).iter().for_each(|case| self.leavers.count_events(case));
+        if let Ok(case) = read_case(bytes) {
+            self.leavers.count_events(&case);
+            self.secure.count(&case);
+        }
         let seed = self.seed;
         let entry = self.groups.entry(group.to_string()).or_insert_with(|| Group::new(group));
         entry.check(same, || {
@@ -128,10 +140,16 @@ impl Judge {
     /// Counts a refusal and, where the file could be read, its policy.
     fn count_refusal(&mut self, bytes: &[u8], number: u8) {
         self.refusals.count(number);
-        if let Ok(Case { users, roles, policy, .. }) = read_case(bytes) {
-            let (users, roles) = (users.into(), roles.into());
-            self.faults.count(Policy { users, roles, words: &policy }, number.into());
+        self.files.count(bytes, number);
+        let Ok(case) = read_case(bytes) else {
+            return;
+        };
+        if u32::from(number) == code::SECURE {
+            self.openings.count(&case);
         }
+        let Case { users, roles, policy, .. } = case;
+        let (users, roles) = (users.into(), roles.into());
+        self.faults.count(Policy { users, roles, words: &policy }, number.into());
     }
 
     /// What was compared.
@@ -142,6 +160,9 @@ impl Judge {
                 self.refusals,
                 self.faults.seen(),
                 self.leavers.seen(),
+                self.secure.seen(),
+                self.openings.seen(),
+                self.files.seen(),
                 self.events,
                 self.letters,
             ],

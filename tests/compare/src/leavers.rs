@@ -114,8 +114,7 @@ fn without_nots(term: &Term) -> Term {
 
 /// A case that opens under a policy with a not, and its monitor.
 fn opened(case: &Case) -> Option<Monitor<Taken>> {
-    let Case { users, roles, policy, user_roles, .. } = case;
-    let monitor = Monitor::open((*users).into(), (*roles).into(), policy, user_roles).ok()?;
+    let monitor: Monitor<Taken> = case.open().ok()?;
     (!denied(monitor.policy()).is_empty()).then_some(monitor)
 }
 
@@ -169,7 +168,7 @@ impl Leavers {
         }
     }
 
-    /// Counts the trials of all users, at the opening of a run and behind each event.
+    /// Counts the trials of all users with action 0, at the opening of a run and behind each event.
     pub fn count_masks(&mut self, case: &Case) {
         let Some(mut monitor) = opened(case) else {
             return;

@@ -4,7 +4,7 @@
 use std::ffi::{c_char, c_int, c_void, CString};
 use std::ptr::NonNull;
 
-use oskhrein::raw::{Action, Calls, Configuration, Instance, Monitor};
+use oskhrein::raw::{Action, Calls, Configuration, Instance, Monitor, Transition, Workflow};
 use reference::raw::RawInstance;
 
 extern "C" {
@@ -42,16 +42,29 @@ fn loaded(path: &str) -> Result<Calls, String> {
 /// A raw instance of the reference as C lays it out.
 pub fn laid_out(raw: &RawInstance) -> Monitor {
     let configuration = Configuration {
+        permissions: raw.permissions,
         user_roles: raw.user_roles,
-        users: raw.users as u16,
-        roles: raw.roles as u16,
+        users: raw.users as u32,
+        roles: raw.roles as u32,
+    };
+    let transition = |arrow: reference::secure::Transition| {
+        let [state, action, next] = arrow.bytes();
+        Transition { state, action, next }
+    };
+    let workflow = Workflow {
+        transitions: raw.transitions.map(transition),
+        final_states: raw.final_states,
+        states: raw.states,
+        count: raw.arrows,
     };
     let instance = Instance {
         policy: raw.policy,
         actions: raw.actions.map(|action| Action { user: action.user as u32, met: action.met }),
+        workflow,
         words: raw.length as u16,
         taken: raw.count as u8,
         closed: raw.closed,
+        state: raw.state as u32,
     };
     Monitor { configuration, instance }
 }

@@ -1,6 +1,6 @@
 //! Compares the product with the reference program, a separate reading of the papers:
 //!
-//! - `judge SEED COUNT`: the judge program on COUNT case files, first the edges of what 01 allows,
+//! - `judge SEED COUNT`: the judge program on COUNT case files, first the edges of what 01 and 02 allow,
 //!   then random ones; fewer files than there are edges leave some number out, which is a failure;
 //! - `fuzz SEED ROUNDS`: the judge program on random and damaged bytes, ROUNDS of each kind;
 //! - `calls SEED COUNT`: each exported call on its edges and on COUNT random inputs.
@@ -17,7 +17,9 @@ mod judge;
 mod leavers;
 mod lent;
 mod library;
+mod refusals;
 mod report;
+mod secure;
 
 use std::process::ExitCode;
 

@@ -1,8 +1,9 @@
-//! Case files and what the judge program prints (01, "Case file and program").
+//! Case files and what the judge program prints (01, "Case file and program"; 02, E4).
 
 use crate::code::{self, Code};
-use crate::monitor::{Monitor, Taken};
+use crate::monitor::{Kept, Monitor, Taken};
 use crate::place::place_of;
+use crate::secure::Given;
 
 /// The most bytes that a case file may have.
 pub const MOST_BYTES: usize = 4096;
@@ -10,7 +11,7 @@ pub const MOST_BYTES: usize = 4096;
 pub const MOST_EVENT_BYTES: usize = 1024;
 
 /// A case: what one case file says, not yet judged by the opening.
-#[derive(Clone, Debug, PartialEq, Eq)]
+#[derive(Clone, Debug, Default, PartialEq, Eq)]
 pub struct Case {
     /// The number of users.
     pub users: u8,
@@ -22,13 +23,34 @@ pub struct Case {
     pub user_roles: Vec<u16>,
     /// The event words.
     pub events: Vec<u32>,
+    /// Permissions and workflow, if the file has five pairs; both may be empty.
+    pub given: Option<Given>,
 }
 
-/// The bytes of the three parts.
+impl Case {
+    /// Permissions and workflow as an opening is given them.
+    pub fn given(&self) -> (&[u8], &[u8]) {
+        self.given.as_ref().map_or((&[], &[]), |given| (&given.permissions, &given.workflow))
+    }
+
+    /// The monitor, opened.
+    ///
+    /// # Errors
+    /// The number of a refused opening.
+    pub fn open<A: Kept>(&self) -> Result<Monitor<A>, Code> {
+        let Case { users, roles, policy, user_roles, .. } = self;
+        let (users, roles) = ((*users).into(), (*roles).into());
+        Monitor::open_secure(users, roles, policy, user_roles, self.given())
+    }
+}
+
+/// The bytes of the parts: policy, grants and events, and where there are five, permissions and
+/// workflow.
 struct Parts<'a> {
     policy: &'a [u8],
     user_roles: &'a [u8],
     events: &'a [u8],
+    given: Option<[&'a [u8]; 2]>,
 }
 
 /// The number of 16 bits at this place, low byte first.
@@ -36,14 +58,24 @@ fn number(bytes: &[u8], place: usize) -> usize {
     usize::from(bytes[place]) + 256 * usize::from(bytes[place + 1])
 }
 
-/// Takes the three parts out of a file, if its size and its pairs are as they should be.
+/// How many pairs a file has by its first offset, which is where they end.
+fn pairs(bytes: &[u8]) -> Option<usize> {
+    match number(bytes, 0) {
+        12 => Some(3),
+        20 if bytes.len() >= 20 => Some(5),
+        _ => None,
+    }
+}
+
+/// Takes the parts out of a file, if its size and its pairs are as they should be.
 fn parts(bytes: &[u8]) -> Option<Parts<'_>> {
     if bytes.len() < 12 || bytes.len() > MOST_BYTES {
         return None;
     }
     let mut found = Vec::new();
-    let mut end = 12;
-    for pair in 0..3 {
+    let pairs = pairs(bytes)?;
+    let mut end = 4 * pairs;
+    for pair in 0..pairs {
         let offset = number(bytes, 4 * pair);
         let length = number(bytes, 4 * pair + 2);
         if offset != end {
@@ -52,11 +84,15 @@ fn parts(bytes: &[u8]) -> Option<Parts<'_>> {
         end = offset + length;
         found.push(bytes.get(offset..end)?);
     }
-    let whole = end == bytes.len();
-    whole.then_some(Parts { policy: found[0], user_roles: found[1], events: found[2] })
+    if end != bytes.len() {
+        return None;
+    }
+    let given = (pairs == 5).then(|| [found[3], found[4]]);
+    Some(Parts { policy: found[0], user_roles: found[1], events: found[2], given })
 }
 
-/// Whether the lengths of the parts are as they should be.
+/// Whether the lengths of the parts are as they should be; those of permissions and workflow are the
+/// opening's matter.
 fn lengths_fit(parts: &Parts) -> bool {
     parts.policy.len().is_multiple_of(4)
         && parts.events.len().is_multiple_of(4)
@@ -85,6 +121,10 @@ pub fn read_case(bytes: &[u8]) -> Result<Case, Code> {
         policy: words(parts.policy),
         user_roles: rows.map(|row| u16::from(row[0]) + 256 * u16::from(row[1])).collect(),
         events: words(parts.events),
+        given: parts.given.map(|[permissions, workflow]| Given {
+            permissions: permissions.to_vec(),
+            workflow: workflow.to_vec(),
+        }),
     })
 }
 
@@ -94,19 +134,29 @@ pub fn write_case(case: &Case) -> Vec<u8> {
     let mut user_roles = vec![case.users, case.roles];
     user_roles.extend(case.user_roles.iter().flat_map(|row| row.to_le_bytes()));
     let events: Vec<u8> = case.events.iter().flat_map(|word| word.to_le_bytes()).collect();
-    join_parts(&policy, &user_roles, &events)
+    match &case.given {
+        None => join_parts(&policy, &user_roles, &events),
+        Some(Given { permissions, workflow }) => {
+            join_all(&[&policy, &user_roles, &events, permissions, workflow])
+        }
+    }
 }
 
-/// The bytes of a case file with these parts, whatever they hold.
+/// The bytes of a case file with these three parts, whatever they hold.
 pub fn join_parts(policy: &[u8], user_roles: &[u8], events: &[u8]) -> Vec<u8> {
+    join_all(&[policy, user_roles, events])
+}
+
+/// The bytes of a file with a pair for each of these parts, whatever they hold.
+pub fn join_all(parts: &[&[u8]]) -> Vec<u8> {
     let mut bytes = Vec::new();
-    let mut offset = 12;
-    for part in [policy, user_roles, events] {
+    let mut offset = 4 * parts.len();
+    for part in parts {
         bytes.extend((offset as u16).to_le_bytes());
         bytes.extend((part.len() as u16).to_le_bytes());
         offset += part.len();
     }
-    bytes.extend([policy, user_roles, events].concat());
+    bytes.extend(parts.concat());
     bytes
 }
 
@@ -136,8 +186,7 @@ impl Report {
 /// # Errors
 /// The number of a refused opening.
 pub fn run(case: &Case) -> Result<Report, Code> {
-    let (users, roles) = (usize::from(case.users), usize::from(case.roles));
-    let mut monitor: Monitor<Taken> = Monitor::open(users, roles, &case.policy, &case.user_roles)?;
+    let mut monitor: Monitor<Taken> = case.open()?;
     let mut report = Report { answers: Vec::new(), taken: 0 };
     for word in &case.events {
         let code = monitor.step(*word).code;
@@ -220,6 +269,43 @@ mod tests {
         assert_eq!(print(&[one; 12]), "refused 3 at 1\n");
         assert_eq!(print(&[not; 31]), "refused 3 at 31\n");
         assert_eq!(print(&[[0, 0, 0, 8], role, not, plus, one]), "refused 4 at 2\n");
+    }
+
+    /// A file with these new parts, of one user who holds the only role.
+    fn with_given(permissions: &[u8], workflow: &[u8]) -> Vec<u8> {
+        let action = [5, 0, 0, 1];
+        let events = [action, action, [0, 0, 0, 4]].concat();
+        join_all(&[&[0, 0, 0, 1], &[1, 1, 1, 0], &events, permissions, workflow])
+    }
+
+    #[test]
+    fn five_pairs_are_read_and_judged() {
+        let (row, workflow) = ([32, 0, 0, 0, 0, 0, 0, 0], [2, 1, 2, 0, 0, 5, 1]);
+        assert_eq!(judge(&with_given(&row, &workflow)), "1 0 c\n2 17 c\n3 0 d\ntaken 1\n");
+        assert_eq!(judge(&with_given(&[0; 8], &workflow)), "1 16 o\n2 16 o\n3 11 o\ntaken 0\n");
+        assert_eq!(judge(&with_given(&row, &[1, 0, 1, 0])), "1 17 o\n2 17 o\n3 11 o\ntaken 0\n");
+        assert_eq!(judge(&with_given(&[], &[])), "1 0 c\n2 9 c\n3 0 d\ntaken 1\n");
+        for (permissions, workflow) in
+            [(&row[..], &[][..]), (&[], &workflow), (&row[1..], &workflow)]
+        {
+            assert_eq!(judge(&with_given(permissions, workflow)), "refused 19\n");
+        }
+        let case = read_case(&with_given(&row, &workflow)).expect("it is well formed");
+        assert_eq!(write_case(&case), with_given(&row, &workflow));
+    }
+
+    #[test]
+    fn other_first_offsets_and_short_files_are_14() {
+        let parts: [&[u8]; 5] = [&[0, 0, 0, 1], &[1, 1, 1, 0], &[], &[], &[]];
+        for pairs in [3, 5] {
+            assert_eq!(judge(&join_all(&parts[..pairs])), "taken 0\n");
+        }
+        assert_eq!(judge(&join_all(&parts[..4])), "refused 14\n");
+        assert_eq!(judge(&join_all(&[&parts[..], &[&[]]].concat())), "refused 14\n");
+        let bare = join_all(&[&[][..]; 5]);
+        for length in 12..=20 {
+            assert_eq!(judge(&bare[..length]), "refused 14\n", "{length} bytes");
+        }
     }
 
     #[test]

@@ -1,4 +1,4 @@
-//! The numbers with which the calls answer (01, "Numbers, by who causes them").
+//! The numbers with which the calls answer (01, "Numbers, by who causes them"; 02).
 
 /// The number that a call answers with; 0 is acceptance.
 pub type Code = u32;
@@ -26,7 +26,7 @@ pub const TOO_MANY_ACTIONS: Code = 8;
 pub const NOT_POSSIBLE: Code = 9;
 /// The instance is closed.
 pub const CLOSED: Code = 10;
-/// A close, but the taken actions do not satisfy the policy.
+/// A close, but the taken actions do not satisfy the policy, or the workflow is in no final state.
 pub const NOT_SATISFIED: Code = 11;
 /// The workspace has fewer than 8,192 words.
 pub const WORKSPACE_SHORT: Code = 12;
@@ -36,3 +36,9 @@ pub const OUTPUT_SHORT: Code = 13;
 pub const CASE_MALFORMED: Code = 14;
 /// The instance is malformed.
 pub const INSTANCE_MALFORMED: Code = 15;
+/// No role that the user holds gives the action.
+pub const NOT_AUTHORIZED: Code = 16;
+/// The workflow has no transition for the action.
+pub const NO_TRANSITION: Code = 17;
+/// Permissions and workflow are not both or neither given, or one of them is not as it must be.
+pub const SECURE: Code = 19;

@@ -9,6 +9,8 @@ pub enum Event {
     Action {
         /// The user who acts.
         user: usize,
+        /// The action's number.
+        action: u8,
     },
     /// A user is given a role.
     Grant {
@@ -37,7 +39,7 @@ pub fn read_event(users: usize, roles: usize, word: u32) -> Result<Event, Code> 
     let user_fits = user < users;
     let role_fits = low < roles;
     match kind {
-        1 if zero == 0 && user_fits => Ok(Event::Action { user }),
+        1 if zero == 0 && user_fits => Ok(Event::Action { user, action: low as u8 }),
         2 if zero == 0 && user_fits && role_fits => Ok(Event::Grant { user, role: low }),
         3 if zero == 0 && user_fits && role_fits => Ok(Event::Revoke { user, role: low }),
         4 if zero == 0 && user == 0 && low == 0 => Ok(Event::Close),
@@ -53,7 +55,7 @@ mod tests {
     #[test]
     fn event_words_are_read() {
         let read = |word| read_event(3, 2, word);
-        assert_eq!(read(0x010002ff), Ok(Event::Action { user: 2 }));
+        assert_eq!(read(0x010002ff), Ok(Event::Action { user: 2, action: 255 }));
         assert_eq!(read(0x02000201), Ok(Event::Grant { user: 2, role: 1 }));
         assert_eq!(read(0x03000100), Ok(Event::Revoke { user: 1, role: 0 }));
         assert_eq!(read(0x04000000), Ok(Event::Close));

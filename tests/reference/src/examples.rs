@@ -1,10 +1,11 @@
-//! 01's listing L, its twelve settled examples, P6 and P7 as 02's E3 has them, and its four tempting
-//! mistakes, as checks.
+//! 01's listing L, its twelve settled examples, P6 and P7 as 02's E3 has them, its four tempting
+//! mistakes, and the payment workflow of document 004, as checks.
 
 use crate::casefile::{judge, read_case, run, Case};
 use crate::monitor::{Monitor, Taken};
 use crate::multiset::multiset;
 use crate::policy::{normal_form, read_policy, Operator, Term};
+use crate::secure::Given;
 use crate::workspace;
 
 /// A check with a name and whether it passed.
@@ -36,6 +37,11 @@ pub fn action(user: u32) -> u32 {
     1 << 24 | user << 8
 }
 
+/// The word of the action with this number by this user.
+pub fn numbered(user: u32, number: u8) -> u32 {
+    action(user) | u32::from(number)
+}
+
 /// The word that gives a user a role.
 pub fn grant(user: u32, role: u32) -> u32 {
     2 << 24 | user << 8 | role
@@ -57,6 +63,7 @@ fn answers(roles: u8, term: &Term, user_roles: &[u16], events: &[u32]) -> Vec<(u
         policy: term.words(),
         user_roles: user_roles.to_vec(),
         events: events.to_vec(),
+        given: None,
     };
     run(&case).map(|report| report.answers).unwrap_or_default()
 }
@@ -187,6 +194,79 @@ pub fn mistakes() -> Vec<Check> {
     ]
 }
 
+/// The actions of Example 1 of document 004: an invoice is received, a check is prepared, the payment
+/// is approved, the check is issued, or the payment is rejected.
+const RECEIVE: u8 = 1;
+const PREPARE: u8 = 2;
+const APPROVE: u8 = 3;
+const ISSUE: u8 = 4;
+const REJECT: u8 = 5;
+
+/// Example 1's workflow: after a rejection the check is prepared again, after an approval there may be
+/// further ones, and the workflow ends once the check is issued.
+fn payment_workflow() -> Vec<u8> {
+    let transitions = [
+        [0, RECEIVE, 1],
+        [1, PREPARE, 2],
+        [2, APPROVE, 3],
+        [2, REJECT, 1],
+        [3, APPROVE, 3],
+        [3, REJECT, 1],
+        [3, ISSUE, 4],
+    ];
+    [&[5, transitions.len() as u8, 1 << 4, 0][..], &transitions.concat()].concat()
+}
+
+/// Example 2's permissions: accountants prepare, clerks receive and issue, managers approve and reject.
+fn payment_permissions() -> Vec<u8> {
+    let rows = [1 << PREPARE, 1 << RECEIVE | 1 << ISSUE, 1u64 << APPROVE | 1 << REJECT];
+    rows.into_iter().flat_map(u64::to_le_bytes).collect()
+}
+
+/// The traces t, t' and t'' of Examples 2 and 7 under Example 3's policy: Alice is a clerk, Bob an
+/// accountant, Claire nothing yet.
+pub fn payments() -> [Case; 3] {
+    let (alice, bob, claire, manager) = (0, 1, 2, 2);
+    let begun = [numbered(alice, RECEIVE), numbered(bob, PREPARE)];
+    let ended = [numbered(alice, ISSUE), CLOSE];
+    let approved: [&[u32]; 3] = [
+        &[numbered(bob, APPROVE)],
+        &[grant(bob, manager), numbered(bob, APPROVE)],
+        &[grant(bob, manager), grant(claire, manager), numbered(claire, APPROVE)],
+    ];
+    approved.map(|approved| Case {
+        users: 3,
+        roles: 3,
+        policy: POLICY_F.to_vec(),
+        user_roles: vec![2, 1, 0],
+        events: [&begun, approved, &ended].concat(),
+        given: Some(Given { permissions: payment_permissions(), workflow: payment_workflow() }),
+    })
+}
+
+/// The numbers of a case.
+fn case_codes(case: &Case) -> Vec<u32> {
+    run(case).map(|report| codes(&report.answers)).unwrap_or_default()
+}
+
+/// Examples 1, 2 and 7 of document 004: t is a run of the workflow, but nobody may approve; in t' Bob
+/// may, but under the policy that is not finished, since another has to; in t'' Claire does.
+pub fn payment_examples() -> Vec<Check> {
+    let plus_everyone = Term::plus(Term::Everyone).words();
+    let [t, t1, t2] = payments();
+    let everything = Given { permissions: vec![255; 24], workflow: payment_workflow() };
+    let all_permitted =
+        Case { policy: plus_everyone.clone(), given: Some(everything), ..t.clone() };
+    let without_policy = Case { policy: plus_everyone, ..t1.clone() };
+    vec![
+        ("Example 1: t is a run of the workflow", case_codes(&all_permitted) == [0; 5]),
+        ("Example 2: in t nobody may approve", case_codes(&t) == [0, 0, 16, 17, 11]),
+        ("Example 2: in t' Bob may", case_codes(&without_policy) == [0; 6]),
+        ("Example 7: t' does not satisfy the policy", case_codes(&t1) == [0, 0, 0, 0, 0, 11]),
+        ("Example 7: t'' is finished", case_codes(&t2) == [0; 7]),
+    ]
+}
+
 #[cfg(test)]
 mod tests {
     use super::*;
@@ -202,7 +282,7 @@ mod tests {
             let rows = monitor.raw().user_roles;
             let mut taken = monitor.taken().to_vec();
             taken.iter_mut().for_each(|action| action.held = ones(rows[action.user]));
-            monitor = monitor.at(taken, false);
+            monitor = monitor.at(taken, 0, false);
             numbers.push(monitor.step(*word).code);
         }
         numbers
@@ -230,6 +310,33 @@ mod tests {
     }
 
     #[test]
+    fn payments_are_as_document_004_says() {
+        let failed: Vec<_> = payment_examples().into_iter().filter(|(_, passed)| !passed).collect();
+        assert_eq!(failed, []);
+    }
+
+    #[test]
+    fn a_rejected_payment_is_prepared_again() {
+        let [.., mut case] = payments();
+        let [alice, bob, claire] = [0, 1, 2];
+        case.events = vec![
+            numbered(alice, RECEIVE),
+            numbered(alice, ISSUE),
+            numbered(bob, PREPARE),
+            grant(claire, 2),
+            numbered(claire, REJECT),
+            numbered(claire, APPROVE),
+            numbered(bob, PREPARE),
+            numbered(claire, APPROVE),
+            numbered(claire, APPROVE),
+            CLOSE,
+            numbered(alice, ISSUE),
+            CLOSE,
+        ];
+        assert_eq!(case_codes(&case), [0, 17, 0, 0, 0, 17, 0, 0, 0, 11, 0, 0]);
+    }
+
+    #[test]
     fn listing_l_is_as_written() {
         assert_eq!(LISTING_L.len(), 96);
         let case = Case {
@@ -241,6 +348,7 @@ mod tests {
                 0x01000001, 0x01000102, 0x02000102, 0x02000202, 0x04000000, 0x01000203, 0x01000004,
                 0x04000000, 0x01000004,
             ],
+            given: None,
         };
         assert_eq!(crate::casefile::write_case(&case), LISTING_L);
         assert_eq!(read_case(&LISTING_L), Ok(case));

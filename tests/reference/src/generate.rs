@@ -3,6 +3,7 @@
 //! - [`terms`]: random terms, also ones that lean on together and apart, and equal forms;
 //! - [`cases`]: random cases and damaged case files;
 //! - [`edges`]: case files at the edges of what 01 allows, for every refusal, and for leavers;
+//! - [`secure`]: permissions and workflows, and cases that run under them;
 //! - [`faults`]: policies with faults at known places;
 //! - [`instances`]: raw instances, well formed and malformed in each way that number 15 lists;
 //! - [`calls`]: inputs for single calls, with outputs and workspaces of every length.
@@ -13,6 +14,7 @@ pub mod edges;
 pub mod faults;
 pub mod instances;
 pub mod random;
+pub mod secure;
 pub mod terms;
 
 pub use random::Random;
@@ -36,6 +38,7 @@ pub fn case_files(seed: u64, count: usize) -> Vec<NamedFile> {
 
 #[cfg(test)]
 mod tests {
+    use super::calls::EnabledInput;
     use super::*;
     use crate::casefile::judge;
     use crate::multiset::multiset;
@@ -58,7 +61,7 @@ mod tests {
     #[test]
     fn edges_bring_about_every_number_that_a_case_file_can() {
         let texts: Vec<String> = edges::all().iter().map(|(_, bytes)| judge(bytes)).collect();
-        for refusal in [5, 6, 14] {
+        for refusal in [5, 6, 14, 19] {
             let wanted = format!("refused {refusal}\n");
             assert!(texts.contains(&wanted), "{wanted}");
         }
@@ -66,7 +69,7 @@ mod tests {
             let wanted = format!("refused {refusal} at ");
             assert!(texts.iter().any(|text| text.starts_with(&wanted)), "{wanted}");
         }
-        for answer in ["0", "7", "8", "9", "10", "11"] {
+        for answer in ["0", "7", "8", "9", "10", "11", "16", "17"] {
             let has =
                 |text: &String| text.lines().any(|line| line.split(' ').nth(1) == Some(answer));
             assert!(texts.iter().any(|text| !text.starts_with("refused") && has(text)), "{answer}");
@@ -120,7 +123,8 @@ mod tests {
             let mut instance = input.instance;
             seen.insert(instance.event(input.word, &mut calls::marked(input.workspace)));
         }
-        assert_eq!(seen, BTreeSet::from([0, 1, 2, 3, 4, 5, 7, 8, 9, 10, 11, 12, 13, 15]));
+        let codes = [0, 1, 2, 3, 4, 5, 7, 8, 9, 10, 11, 12, 13, 15, 16, 17];
+        assert_eq!(seen, BTreeSet::from(codes));
     }
 
     #[test]
@@ -153,7 +157,8 @@ mod tests {
         let mut random = Random::new(13);
         let mut seen = BTreeSet::new();
         for (_, input) in calls::enabled_edges(&mut random) {
-            seen.insert(input.instance.enabled(&mut calls::marked(input.workspace)));
+            let EnabledInput { instance, action, workspace } = input;
+            seen.insert(instance.enabled(action, &mut calls::marked(workspace)));
         }
         for answer in [Err(12), Err(15), Ok(0), Ok(1), Ok(u16::MAX)] {
             assert!(seen.contains(&answer), "{answer:?}");

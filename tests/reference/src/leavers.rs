@@ -95,7 +95,7 @@ fn a_leaver_is_refused_until_a_role_is_given_anew() {
     let mut monitor = opened(&policy, &[3, 3]);
     let leaves = [action(1), revoke(1, 0), action(1), revoke(1, 1), action(1)];
     assert_eq!(codes(&mut monitor, &leaves), [0, 0, 0, 0, 9]);
-    assert_eq!((monitor.mask(), monitor.taken().len()), (0, 2));
+    assert_eq!((monitor.mask(0), monitor.taken().len()), (0, 2));
     let anna_leaves = [action(0), revoke(0, 0), revoke(0, 1), action(0)];
     assert_eq!(codes(&mut monitor, &anna_leaves), [9, 0, 0, 9]);
     assert_eq!(codes(&mut monitor, &[grant(1, 0), action(1), CLOSE]), [0, 0, 0]);
@@ -107,7 +107,7 @@ fn what_a_leaver_did_before_stays() {
     let mut monitor = opened(&policy, &[1, 2]);
     assert_eq!(codes(&mut monitor, &[action(1), revoke(1, 1), CLOSE, action(1)]), [0, 0, 11, 9]);
     let noted = Taken { user: 1, held: BTreeSet::from([1]) };
-    assert_eq!((monitor.taken(), monitor.mask()), (&[noted][..], 0b01));
+    assert_eq!((monitor.taken(), monitor.mask(0)), (&[noted][..], 0b01));
     assert_eq!(codes(&mut monitor, &[action(0), revoke(0, 0), CLOSE]), [0, 0, 0]);
 }
 
@@ -115,14 +115,14 @@ fn what_a_leaver_did_before_stays() {
 fn the_mask_has_no_bit_for_who_holds_no_role() {
     for policy in units_up_to(4).iter().flat_map(policies) {
         let mut monitor = opened(&policy, &[0, 1, 0, 2]);
-        let mask = monitor.mask();
+        let mask = monitor.mask(0);
         assert_eq!(mask & 0b0101, 0, "{policy:?}");
         for user in 0..4 {
             let code = if mask >> user & 1 == 1 { 0 } else { 9 };
             assert_eq!(monitor.clone().step(action(user)).code, code, "{policy:?}");
         }
         codes(&mut monitor, &[action(1), revoke(1, 0)]);
-        assert_eq!(monitor.mask() & 0b0111, 0, "{policy:?}");
+        assert_eq!(monitor.mask(0) & 0b0111, 0, "{policy:?}");
     }
 }
 

@@ -8,6 +8,7 @@
 //! - [`place`]: the place of a policy's fault;
 //! - [`search`]: satisfied and possible, by search on lists;
 //! - [`event`]: event words;
+//! - [`secure`]: permissions and workflow;
 //! - [`monitor`]: a monitor and its rules, for either way to keep an action;
 //! - [`enabled`]: who may act, by trying each user;
 //! - [`multiset`]: the multiset test;
@@ -37,6 +38,7 @@ pub mod place;
 pub mod policy;
 pub mod raw;
 pub mod search;
+pub mod secure;
 pub mod selfcheck;
 mod words;
 pub mod workspace;

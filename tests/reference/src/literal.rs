@@ -1,5 +1,5 @@
-//! Definitions 3 to 7 of document 004, rule by rule, for small cases; rule (4) of Definition 3 is
-//! the one that 02's E3 puts in its place.
+//! Definitions 3 to 7 of document 004, rule by rule, and its processes of a secure workflow, for small
+//! cases; rule (4) of Definition 3 is the one that 02's E3 puts in its place.
 //!
 //! Nothing here is shared with the search: users' roles are a relation, multisets are counts,
 //! traces are lists of events, and processes are labelled transitions.
@@ -10,6 +10,7 @@ mod traces;
 
 pub use multisets::{multiset_satisfies, Multiset};
 pub use processes::{accepts, map_term, next, Process, Reading, Synchronised};
+pub use processes::{secure_workflow, Permissions, Transitions};
 pub use traces::{si, trace_satisfies, users_of};
 
 use std::collections::BTreeSet;
@@ -165,6 +166,54 @@ mod tests {
         assert!(!multiset_satisfies(&twice, &manager, &manager_and_another()));
         assert!(!multiset_satisfies(&twice, &clerks, &manager_and_another()));
         assert!(multiset_satisfies(&vec![1, 1], &manager, &manager_and_another()));
+    }
+
+    /// Example 1's workflow, Example 2's configuration, and how many events of a trace are accepted by
+    /// SW, whose term asks for nothing but roles, or by SSW under this term.
+    fn accepted(trace: &[Event], term: &Term) -> usize {
+        let (receive, prepare, approve, issue, reject) = (1, 2, 3, 4, 5);
+        let edges = [
+            (0, receive, 1),
+            (1, prepare, 2),
+            (2, approve, 3),
+            (2, reject, 1),
+            (3, approve, 3),
+            (3, reject, 1),
+            (3, issue, 4),
+        ];
+        let transitions = Transitions { edges: edges.into(), finals: [4].into() };
+        let permissions = Permissions::from([
+            (ACCOUNTANT, prepare),
+            (CLERK, receive),
+            (CLERK, issue),
+            (MANAGER, approve),
+            (MANAGER, reject),
+        ]);
+        let assignment = Assignment::from([(ALICE, CLERK), (BOB, ACCOUNTANT)]);
+        let users = BTreeSet::from([ALICE, BOB, CLAIRE]);
+        let term = map_term(term, &users, &assignment, Reading::UnitFirst);
+        let process = secure_workflow(&transitions, &assignment, &permissions, term);
+        let whole = |count: &usize| !accepts(&process, &trace[..*count]).is_empty();
+        (0..=trace.len()).rev().find(whole).expect("no event is accepted at least")
+    }
+
+    #[test]
+    fn examples_2_and_7() {
+        let act = |user, action| Event::Business { user, action };
+        let manager = |user| Event::Add { user, role: MANAGER };
+        let begun = [act(ALICE, 1), act(BOB, 2)];
+        let ended = [act(ALICE, 4), Event::Done];
+        let t = [&begun[..], &[act(BOB, 3)], &ended].concat();
+        let t1 = [&begun[..], &[manager(BOB), act(BOB, 3)], &ended].concat();
+        let t2 = [&begun[..], &[manager(BOB), manager(CLAIRE), act(CLAIRE, 3)], &ended].concat();
+        let anything = Term::plus(Term::Everyone);
+        assert_eq!((accepted(&t, &anything), accepted(&t1, &anything)), (2, t1.len()));
+        let accountants =
+            Term::join(Operator::Apart, Term::Role(ACCOUNTANT), Term::Role(ACCOUNTANT));
+        let other = Term::join(Operator::Either, Term::Role(MANAGER), accountants);
+        let signed = Term::join(Operator::Apart, Term::Role(ACCOUNTANT), other);
+        let policy = Term::join(Operator::Together, signed, anything);
+        assert_eq!((accepted(&t1, &policy), accepted(&t2, &policy)), (t1.len() - 1, t2.len()));
     }
 
     #[test]

@@ -1,5 +1,5 @@
-//! A monitor and its rules (01, "Sheets and events" and "Satisfied and possible"): the order of
-//! refusals, what an event alters, the status.
+//! A monitor and its rules (01, "Sheets and events" and "Satisfied and possible"; 02, E4): the order
+//! of refusals, what an event alters, the status.
 //!
 //! The rules are said once, over either way to keep a taken action: with the roles that its user
 //! held at the time ([`Taken`]), or with the bits noted for it ([`crate::raw::RawAction`]).
@@ -11,6 +11,7 @@ use crate::event::{read_event, Event};
 use crate::policy::{self, Term};
 use crate::raw::RawInstance;
 use crate::search::{Acted, Search};
+use crate::secure::Secure;
 use crate::workspace;
 
 /// The most actions that an instance may take, and that a multiset may hold.
@@ -83,10 +84,13 @@ struct Configuration {
     user_roles: Vec<BTreeSet<usize>>,
 }
 
-/// One run under a policy: what was taken, and whether it is closed.
+/// One run under a policy and, if they are given, permissions and a workflow: what was taken, the
+/// workflow's present state, and whether it is closed.
 #[derive(Clone, Debug)]
 struct Instance<A> {
     policy: Term,
+    secure: Option<Secure>,
+    state: u8,
     taken: Vec<A>,
     closed: bool,
     search: Search<A>,
@@ -100,8 +104,26 @@ pub struct Monitor<A> {
 }
 
 impl<A: Kept> Instance<A> {
-    /// An action: taken when all actions with it are possible.
-    fn act(&mut self, user: usize, held: &BTreeSet<usize>) -> Outcome<A> {
+    /// The state that an action leads to, tried by a user who holds these roles: where nothing else is
+    /// given, the same one.
+    fn next(&self, held: &BTreeSet<usize>, action: u8) -> Result<u8, Code> {
+        let secure = self.secure.as_ref();
+        secure.map_or(Ok(self.state), |secure| secure.step(held, self.state, action))
+    }
+
+    /// Whether the workflow may end now.
+    fn is_final(&self) -> bool {
+        let workflow = self.secure.as_ref().map(|secure| &secure.workflow);
+        workflow.is_none_or(|workflow| workflow.final_states.contains(&self.state))
+    }
+
+    /// An action: taken when a role gives it, a transition has it, and all actions with it are
+    /// possible. Then alone the state moves.
+    fn act(&mut self, user: usize, action: u8, held: &BTreeSet<usize>) -> Outcome<A> {
+        let next = match self.next(held, action) {
+            Ok(next) => next,
+            Err(refusal) => return Outcome::unjudged(refusal),
+        };
         if self.taken.len() == MOST_ACTIONS {
             return Outcome::unjudged(code::TOO_MANY_ACTIONS);
         }
@@ -111,19 +133,20 @@ impl<A: Kept> Instance<A> {
             return Outcome::judged(code::NOT_POSSIBLE, tried);
         }
         self.taken = tried.clone();
+        self.state = next;
         Outcome::judged(code::ACCEPTED, tried)
     }
 
-    /// A close: accepted when all taken actions satisfy the policy.
+    /// A close: accepted when all taken actions satisfy the policy and the workflow may end.
     fn close(&mut self) -> Outcome<A> {
-        self.closed = self.search.satisfied(&self.taken);
+        self.closed = self.search.satisfied(&self.taken) && self.is_final();
         let code = if self.closed { code::ACCEPTED } else { code::NOT_SATISFIED };
         Outcome::judged(code, self.taken.clone())
     }
 }
 
 impl<A: Kept> Monitor<A> {
-    /// Opens a monitor: no action, not closed.
+    /// Opens a monitor with neither permissions nor a workflow: no action, not closed.
     ///
     /// # Errors
     /// 5, 1, 2, 3, 4, 6, looked for in that order.
@@ -133,26 +156,43 @@ impl<A: Kept> Monitor<A> {
         words: &[u32],
         user_roles: &[u16],
     ) -> Result<Monitor<A>, Code> {
+        Monitor::open_secure(users, roles, words, user_roles, (&[], &[]))
+    }
+
+    /// Opens a monitor with permissions and a workflow, unless both are empty: no action, in state 0,
+    /// not closed.
+    ///
+    /// # Errors
+    /// 5, 1, 2, 3, 4, 6, 19, looked for in that order.
+    pub fn open_secure(
+        users: usize,
+        roles: usize,
+        words: &[u32],
+        user_roles: &[u16],
+        (permissions, workflow): (&[u8], &[u8]),
+    ) -> Result<Monitor<A>, Code> {
         let policy = policy::read_term(users, roles, words)?;
         if !policy::user_roles_fit(users, roles, user_roles) {
             return Err(code::USER_ROLES);
         }
+        let secure = Secure::read(roles, permissions, workflow)?;
         let user_roles = user_roles.iter().map(|row| policy::ones(*row)).collect();
         let search = Search::new(&policy);
         Ok(Monitor {
             configuration: Configuration { users, roles, user_roles },
-            instance: Instance { policy, taken: vec![], closed: false, search },
+            instance: Instance { policy, secure, state: 0, taken: vec![], closed: false, search },
         })
     }
 
-    /// The same monitor after these actions, open or closed, whatever run led there.
-    pub fn at(mut self, taken: Vec<A>, closed: bool) -> Monitor<A> {
+    /// The same monitor after these actions and in this state, open or closed, whatever run led there.
+    pub fn at(mut self, taken: Vec<A>, state: u8, closed: bool) -> Monitor<A> {
         self.instance.taken = taken;
+        self.instance.state = state;
         self.instance.closed = closed;
         self
     }
 
-    /// One event, without a workspace: 10, 7, then 8, 9 or 11.
+    /// One event, without a workspace: 10, 7, then 16, 17, 8, 9 or 11.
     pub fn step(&mut self, word: u32) -> Outcome<A> {
         let Monitor { configuration: Configuration { users, roles, user_roles }, instance } = self;
         if instance.closed {
@@ -160,7 +200,9 @@ impl<A: Kept> Monitor<A> {
         }
         match read_event(*users, *roles, word) {
             Err(refusal) => return Outcome::unjudged(refusal),
-            Ok(Event::Action { user }) => return instance.act(user, &user_roles[user]),
+            Ok(Event::Action { user, action }) => {
+                return instance.act(user, action, &user_roles[user]);
+            }
             Ok(Event::Close) => return instance.close(),
             Ok(Event::Grant { user, role }) => user_roles[user].insert(role),
             Ok(Event::Revoke { user, role }) => user_roles[user].remove(&role),
@@ -205,6 +247,21 @@ impl<A: Kept> Monitor<A> {
         &self.instance.taken
     }
 
+    /// Permissions and workflow, if they are given.
+    pub fn secure(&self) -> Option<&Secure> {
+        self.instance.secure.as_ref()
+    }
+
+    /// The workflow's present state.
+    pub fn state(&self) -> u8 {
+        self.instance.state
+    }
+
+    /// The roles that a user holds.
+    pub fn held(&self, user: usize) -> &BTreeSet<usize> {
+        &self.configuration.user_roles[user]
+    }
+
     /// The number of users.
     pub fn users(&self) -> usize {
         self.configuration.users
@@ -231,6 +288,8 @@ impl<A: Kept> Monitor<A> {
             place.met = action.bits(&instance.policy);
         }
         raw.closed = u8::from(instance.closed);
+        instance.secure.iter().for_each(|secure| raw.keep_secure(secure));
+        raw.state = instance.state.into();
         raw
     }
 }
@@ -238,7 +297,7 @@ impl<A: Kept> Monitor<A> {
 #[cfg(test)]
 mod tests {
     use super::*;
-    use crate::examples::{action, grant, revoke, CLOSE};
+    use crate::examples::{action, grant, numbered, revoke, CLOSE};
     use crate::workspace::{expected, POSSIBLE, WORDS};
 
     const PLUS_EVERYONE: [u32; 2] = [0x05000000, 0x01000000];
@@ -327,6 +386,51 @@ mod tests {
         assert_eq!(monitor.status(&mut workspace), Ok('d'));
         assert_eq!(workspace[..WORDS], expected(&policy, &[with_role]));
         assert_eq!(workspace[WORDS..], marked[WORDS..]);
+    }
+
+    /// One action of role 0 and one of role 1 by another user; both roles give actions 1 and 2, which
+    /// lead from state 0 to 1 and on to 2, the final one.
+    fn two_steps() -> Monitor<Taken> {
+        let rows = [[6, 0, 0, 0, 0, 0, 0, 0], [6, 0, 0, 0, 0, 0, 0, 0]].concat();
+        let workflow = [3, 2, 4, 0, 0, 1, 1, 1, 2, 2];
+        let words = [0x09000000, 0x02000000, 0x02000001];
+        let opened = Monitor::open_secure(3, 2, &words, &[1, 2, 0], (&rows, &workflow));
+        opened.expect("it opens")
+    }
+
+    #[test]
+    fn the_state_is_moved_by_accepted_actions_alone() {
+        let mut monitor = two_steps();
+        let mut answered = |word: u32| (monitor.step(word).code, monitor.state());
+        assert_eq!(answered(numbered(2, 1)), (16, 0));
+        assert_eq!(answered(numbered(0, 2)), (17, 0));
+        assert_eq!(answered(numbered(0, 1)), (0, 1));
+        assert_eq!(answered(numbered(0, 2)), (9, 1));
+        assert_eq!(answered(CLOSE), (11, 1));
+        assert_eq!(answered(numbered(1, 2)), (0, 2));
+        assert_eq!(answered(numbered(1, 2)), (17, 2));
+        assert_eq!(answered(CLOSE), (0, 2));
+    }
+
+    #[test]
+    fn sixteen_and_seventeen_leave_the_workspace() {
+        let mut monitor = two_steps();
+        let mut workspace = vec![8; WORDS];
+        for (word, code) in [(numbered(2, 1), 16), (numbered(2, 2), 16), (numbered(0, 2), 17)] {
+            assert_eq!(monitor.event(word, &mut workspace), code);
+            assert!(workspace.iter().all(|word| *word == 8));
+        }
+    }
+
+    #[test]
+    fn the_status_does_not_look_at_the_state() {
+        let mut monitor = two_steps();
+        monitor.step(numbered(0, 1));
+        let taken = [monitor.taken(), &[Taken { user: 1, held: BTreeSet::from([1]) }]].concat();
+        for (state, code) in [(1, 11), (2, 0)] {
+            let mut monitor = monitor.clone().at(taken.clone(), state, false);
+            assert_eq!((monitor.letter(), monitor.step(CLOSE).code), ('c', code));
+        }
     }
 
     #[test]

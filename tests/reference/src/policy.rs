@@ -7,8 +7,10 @@ use crate::code::{self, Code};
 
 /// The most words that a policy may have.
 pub const MOST_WORDS: usize = 31;
-/// The most users, and the most roles, that may be declared.
+/// The most users that may be declared.
 pub const MOST_USERS: usize = 16;
+/// The most roles that may be declared.
+pub const MOST_ROLES: usize = 16;
 
 /// An operator that joins two terms; its number is its kind.
 #[derive(Clone, Copy, Debug, PartialEq, Eq, PartialOrd, Ord, Hash)]
@@ -207,7 +209,7 @@ pub fn ones(mask: u16) -> BTreeSet<usize> {
 
 /// Whether the counts of users and roles are both 1 to 16.
 pub fn counts_fit(users: usize, roles: usize) -> bool {
-    (1..=MOST_USERS).contains(&users) && (1..=MOST_USERS).contains(&roles)
+    (1..=MOST_USERS).contains(&users) && (1..=MOST_ROLES).contains(&roles)
 }
 
 /// Whether a word is in the layout and names only declared users and roles and no empty set.

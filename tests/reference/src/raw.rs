@@ -1,4 +1,4 @@
-//! Instances given as raw data with noted bits, and which of them are malformed (01's number 15).
+//! Instances given as raw data with noted bits, and which of them are malformed (number 15).
 //! One that is not is a monitor like any other, and [`Monitor`] has its rules; what an action met
 //! goes by the bits as they are (01's table, "the first row that fits decides").
 
@@ -6,15 +6,16 @@ use std::collections::BTreeSet;
 
 use crate::code::{self, Code};
 use crate::monitor::{Kept, Monitor, Outcome, MOST_ACTIONS};
-use crate::policy::{self, Term, MOST_USERS, MOST_WORDS};
+use crate::policy::{self, Term, MOST_ROLES, MOST_USERS, MOST_WORDS};
 use crate::search::Acted;
+use crate::secure::{Secure, Transition, MOST_TRANSITIONS};
 use crate::workspace;
 
-/// How many bits the compared program's struct has for the numbers of users, roles and words. Here
-/// every number has room; inputs keep to what can be lent.
-pub const COUNT_BITS: usize = 16;
-/// How many bits it has for the user of an action.
-pub const USER_BITS: usize = 32;
+/// How many bits the compared program's struct has for the numbers of users and roles, for the user of
+/// an action and for the present state. Here every number has room; inputs keep to what can be lent.
+pub const WIDE_BITS: usize = 32;
+/// How many bits it has for the number of words.
+pub const WORD_BITS: usize = 16;
 /// The marks of a closed instance that may be lent to it.
 pub const CLOSED_MARKS: [u8; 4] = [1, 2, 128, 255];
 
@@ -71,6 +72,19 @@ pub struct RawInstance {
     pub actions: [RawAction; MOST_ACTIONS],
     /// Whether the instance is closed: 0 is open, every other value closed.
     pub closed: u8,
+    /// The actions that each role gives, bit a for action a; rows past the roles are to be zero.
+    pub permissions: [u64; MOST_ROLES],
+    /// The number of states; 0 where neither permissions nor a workflow are given, and then all of
+    /// both is to be zero.
+    pub states: u8,
+    /// The final states, bit s for state s.
+    pub final_states: u16,
+    /// The number of transitions.
+    pub arrows: u8,
+    /// The transitions; those past their number are to be zero.
+    pub transitions: [Transition; MOST_TRANSITIONS],
+    /// The present state.
+    pub state: usize,
 }
 
 impl RawInstance {
@@ -84,16 +98,33 @@ impl RawInstance {
         count: 0,
         actions: [RawAction::BLANK; MOST_ACTIONS],
         closed: 0,
+        permissions: [0; MOST_ROLES],
+        states: 0,
+        final_states: 0,
+        arrows: 0,
+        transitions: [Transition { state: 0, action: 0, next: 0 }; MOST_TRANSITIONS],
+        state: 0,
     };
 
-    /// Opens an instance: 0 and the instance, or the number of the refusal and the blank instance.
+    /// Opens an instance with neither permissions nor a workflow, as [`RawInstance::open_secure`].
     pub fn open(
         users: usize,
         roles: usize,
         words: &[u32],
         user_roles: &[u16],
     ) -> (Code, RawInstance) {
-        match Monitor::<RawAction>::open(users, roles, words, user_roles) {
+        RawInstance::open_secure(users, roles, words, user_roles, (&[], &[]))
+    }
+
+    /// Opens an instance: 0 and the instance, or the number of the refusal and the blank instance.
+    pub fn open_secure(
+        users: usize,
+        roles: usize,
+        words: &[u32],
+        user_roles: &[u16],
+        given: (&[u8], &[u8]),
+    ) -> (Code, RawInstance) {
+        match Monitor::<RawAction>::open_secure(users, roles, words, user_roles, given) {
             Ok(monitor) => (code::ACCEPTED, monitor.raw()),
             Err(refusal) => (refusal, RawInstance::BLANK),
         }
@@ -102,23 +133,65 @@ impl RawInstance {
     /// The monitor that this is, whose rules are then those of every other.
     ///
     /// # Errors
-    /// 15 if it is malformed: exactly 01's list.
+    /// 15 if it is malformed: exactly the list of 01 and 02's E4.
     pub fn monitor(&self) -> Result<Monitor<RawAction>, Code> {
         let monitor = self.opened().ok_or(code::INSTANCE_MALFORMED)?;
         let well_formed = self.count <= MOST_ACTIONS
             && self.users_are_declared()
             && self.bits_are_at(monitor.policy().unit_mask())
-            && self.unused_is_zero();
+            && self.unused_is_zero()
+            && self.state_is_declared();
         well_formed
-            .then(|| monitor.at(self.taken().to_vec(), self.closed != 0))
+            .then(|| monitor.at(self.taken().to_vec(), self.state as u8, self.closed != 0))
             .ok_or(code::INSTANCE_MALFORMED)
     }
 
-    /// The monitor as opened, if counts, policy and rows of roles would not be refused.
+    /// The monitor as opened, if counts, policy, rows of roles, permissions and workflow would not be
+    /// refused.
     fn opened(&self) -> Option<Monitor<RawAction>> {
         let words = self.policy.get(..self.length)?;
         let user_roles = self.user_roles.get(..self.users)?;
-        Monitor::open(self.users, self.roles, words, user_roles).ok()
+        let (permissions, workflow) = self.given()?;
+        let given = (&permissions[..], &workflow[..]);
+        Monitor::open_secure(self.users, self.roles, words, user_roles, given).ok()
+    }
+
+    /// Whether all that belongs to permissions and workflow is zero, so that neither is given.
+    fn is_bare(&self) -> bool {
+        let RawInstance { permissions, transitions, .. } = RawInstance::BLANK;
+        self.permissions == permissions
+            && self.transitions == transitions
+            && (self.states, self.final_states, self.arrows, self.state) == (0, 0, 0, 0)
+    }
+
+    /// Permissions and workflow as the bytes that an opening would be given for them, if there are as
+    /// many rows and transitions as the counts say.
+    pub fn given(&self) -> Option<(Vec<u8>, Vec<u8>)> {
+        if self.is_bare() {
+            return Some((vec![], vec![]));
+        }
+        let rows = self.permissions.get(..self.roles)?;
+        let transitions = self.transitions.get(..self.arrows.into())?;
+        let mut workflow = vec![self.states, self.arrows];
+        workflow.extend(self.final_states.to_le_bytes());
+        workflow.extend(transitions.iter().flat_map(|arrow| arrow.bytes()));
+        Some((rows.iter().flat_map(|row| row.to_le_bytes()).collect(), workflow))
+    }
+
+    /// Holds these permissions and this workflow from now on.
+    pub fn keep_secure(&mut self, Secure { permissions, workflow }: &Secure) {
+        for (role, action) in permissions {
+            self.permissions[*role] |= 1 << action;
+        }
+        self.states = workflow.states;
+        self.final_states = workflow.final_states.iter().map(|state| 1u16 << state).sum();
+        self.arrows = workflow.transitions.len() as u8;
+        self.transitions[..workflow.transitions.len()].copy_from_slice(&workflow.transitions);
+    }
+
+    /// Whether the workflow has its present state; one that is not given is in state 0.
+    fn state_is_declared(&self) -> bool {
+        self.is_bare() || self.state < self.states.into()
     }
 
     /// The taken actions.
@@ -136,11 +209,13 @@ impl RawInstance {
         self.taken().iter().all(|action| action.met & !mask == 0)
     }
 
-    /// Whether unused places, policy words and rows of roles are zero.
+    /// Whether unused places, policy words, rows of roles, rows of actions and transitions are zero.
     fn unused_is_zero(&self) -> bool {
         self.actions[self.count..].iter().all(|action| *action == RawAction::BLANK)
             && self.policy[self.length..].iter().all(|word| *word == 0)
             && self.user_roles[self.users..].iter().all(|row| *row == 0)
+            && self.permissions[self.roles..].iter().all(|row| *row == 0)
+            && self.transitions[self.arrows.into()..].iter().all(|arrow| arrow.bytes() == [0; 3])
     }
 
     /// Keeps what an accepted event left of the monitor; a refused one leaves every byte as it was.
@@ -201,8 +276,8 @@ impl RawInstance {
     ///
     /// # Errors
     /// 12, then 15.
-    pub fn enabled(&self, workspace: &mut [u32]) -> Result<u16, Code> {
-        self.admitted(workspace)?.enabled(workspace)
+    pub fn enabled(&self, action: u8, workspace: &mut [u32]) -> Result<u16, Code> {
+        self.admitted(workspace)?.enabled(action, workspace)
     }
 }
 
@@ -225,7 +300,7 @@ mod tests {
                     assert_eq!(after.event(word, &mut workspace), 15, "{name}");
                 }
                 assert_eq!(after.status(&mut workspace), Err(15));
-                assert_eq!(after.enabled(&mut workspace), Err(15));
+                assert_eq!(after.enabled(1, &mut workspace), Err(15));
                 assert_eq!(after, raw);
                 assert!(workspace.iter().all(|word| *word == 6));
             }
@@ -249,7 +324,7 @@ mod tests {
         let mut raw = RawInstance::BLANK;
         assert_eq!(raw.event(CLOSE, &mut vec![0; WORDS - 1]), 12);
         assert_eq!(raw.status(&mut vec![0; WORDS - 1]), Err(12));
-        assert_eq!(raw.enabled(&mut vec![0; WORDS - 1]), Err(12));
+        assert_eq!(raw.enabled(1, &mut vec![0; WORDS - 1]), Err(12));
         assert_eq!(raw.event(CLOSE, &mut vec![0; WORDS]), 15);
     }
 

@@ -6,8 +6,8 @@ use crate::code::{self, Code};
 use crate::event::Event;
 use crate::examples;
 use crate::generate::terms::{self, Style};
-use crate::generate::{cases, Random};
-use crate::literal::{self, Assignment, Process, Reading};
+use crate::generate::{cases, secure, Random};
+use crate::literal::{self, Assignment, Process, Reading, Transitions};
 use crate::monitor::{Kept, Monitor, Taken};
 use crate::multiset::{multiset, open_multiset};
 use crate::policy::{self, Term};
@@ -107,7 +107,7 @@ fn small_term(random: &mut Random, style: Style) -> Term {
 fn small_event(random: &mut Random, users: usize, roles: usize) -> Event {
     let (user, role) = (random.below(users), random.below(roles));
     match random.below(10) {
-        0..=6 => Event::Action { user },
+        0..=6 => Event::Action { user, action: 0 },
         7 | 8 => Event::Grant { user, role },
         _ => Event::Revoke { user, role },
     }
@@ -116,7 +116,7 @@ fn small_event(random: &mut Random, users: usize, roles: usize) -> Event {
 /// The event of the literal definitions.
 fn as_literal(event: Event, action: u8) -> literal::Event {
     match event {
-        Event::Action { user } => literal::Event::Business { user, action },
+        Event::Action { user, .. } => literal::Event::Business { user, action },
         Event::Grant { user, role } => literal::Event::Add { user, role },
         Event::Revoke { user, role } => literal::Event::Remove { user, role },
         Event::Close => literal::Event::Done,
@@ -126,7 +126,7 @@ fn as_literal(event: Event, action: u8) -> literal::Event {
 /// The event word.
 fn as_word(event: Event) -> u32 {
     match event {
-        Event::Action { user } => examples::action(user as u32),
+        Event::Action { user, action } => examples::numbered(user as u32, action),
         Event::Grant { user, role } => examples::grant(user as u32, role as u32),
         Event::Revoke { user, role } => examples::revoke(user as u32, role as u32),
         Event::Close => examples::CLOSE,
@@ -136,8 +136,9 @@ fn as_word(event: Event) -> u32 {
 /// The whole self check: 01's examples, then so many random cases for the seed.
 pub fn selfcheck(seed: u64, count: usize) -> Tally {
     let mut tally = Tally::default();
-    for (name, passed) in examples::settled().into_iter().chain(examples::mistakes()) {
-        tally.check(name, passed, &"01's example");
+    let checks = [examples::settled(), examples::mistakes(), examples::payment_examples()];
+    for (name, passed) in checks.into_iter().flatten() {
+        tally.check(name, passed, &"an example");
     }
     let mut random = Random::new(seed);
     for _ in 0..count {
@@ -147,8 +148,134 @@ pub fn selfcheck(seed: u64, count: usize) -> Tally {
         check_multiset(&mut tally, &small, &mut random);
         check_equal_form(&mut tally, &small, &mut random);
         check_workspace(&mut tally, &small);
+        check_secure(&mut tally, &small, &mut random);
     }
     tally
+}
+
+/// The numbers that actions have under a small workflow.
+const ACTIONS: [u8; 3] = [0, 1, 63];
+
+/// A small workflow of up to three states, and which role gives which of its actions.
+#[derive(Clone, Debug)]
+struct SmallWorkflow {
+    permissions: literal::Permissions,
+    plan: secure::Plan,
+}
+
+impl SmallWorkflow {
+    /// More than half of the transitions and permissions that there can be.
+    fn random(random: &mut Random, roles: usize) -> SmallWorkflow {
+        let states = random.between(1, 3) as u8;
+        let final_states = random.word() as u16 & ((1 << states) - 1);
+        let mut plan = secure::Plan { states, final_states, transitions: vec![] };
+        for (state, action) in (0..states).flat_map(|state| ACTIONS.map(|action| (state, action))) {
+            if random.percent(60) {
+                plan.transitions.push([state, action, random.below(states.into()) as u8]);
+            }
+        }
+        let pairs = (0..roles).flat_map(|role| ACTIONS.map(|action| (role, action)));
+        SmallWorkflow { permissions: pairs.filter(|_| random.percent(60)).collect(), plan }
+    }
+
+    /// The monitor of a small case under them, opened.
+    fn open(&self, small: &Small) -> Monitor<Taken> {
+        let row = |role: usize| {
+            let given = self.permissions.iter().filter(|(giving, _)| *giving == role);
+            given.map(|(_, action)| 1u64 << action).sum()
+        };
+        let rows: Vec<u64> = (0..small.roles).map(row).collect();
+        let given = (&secure::permissions(&rows)[..], &self.plan.bytes()[..]);
+        let (words, user_roles) = (small.term.words(), &small.user_roles);
+        let opened = Monitor::open_secure(small.users, small.roles, &words, user_roles, given);
+        opened.expect("a small case opens")
+    }
+
+    /// Its process SSW.
+    fn process(&self, small: &Small) -> Process {
+        let edges = self.plan.transitions.iter().map(|[from, action, to]| (*from, *action, *to));
+        let finals = policy::ones(self.plan.final_states).into_iter().map(|state| state as u8);
+        let transitions = Transitions { edges: edges.collect(), finals: finals.collect() };
+        let term = small.process(Reading::UnitFirst);
+        literal::secure_workflow(&transitions, &small.assignment(), &self.permissions, term)
+    }
+}
+
+/// The event, with another number if it is an action.
+fn renumbered(event: Event, action: u8) -> Event {
+    match event {
+        Event::Action { user, .. } => Event::Action { user, action },
+        other => other,
+    }
+}
+
+/// The monitor of a small case under permissions and a workflow against SSW, event by event, with the
+/// mask for each action and a close at the end.
+fn check_secure(tally: &mut Tally, small: &Small, random: &mut Random) {
+    let workflow = SmallWorkflow::random(random, small.roles);
+    let mut monitor = workflow.open(small);
+    let mut states = BTreeSet::from([workflow.process(small)]);
+    let case = (small, &workflow);
+    for event in &small.events {
+        let action = random.pick(&ACTIONS);
+        let event = renumbered(*event, action);
+        check_secure_masks(tally, &monitor, &states, &case);
+        let reached = followed(&states, as_literal(event, action));
+        let code = monitor.step(as_word(event)).code;
+        let agree = (code == code::ACCEPTED) != reached.is_empty();
+        tally.check("an event is accepted when SSW engages in it", agree, &case);
+        tally.cover("events that SSW takes", "events that SSW refuses", !reached.is_empty());
+        states = if reached.is_empty() { states } else { reached };
+    }
+    let done = !followed(&states, literal::Event::Done).is_empty();
+    let code = monitor.step(examples::CLOSE).code;
+    let expected = if done { code::ACCEPTED } else { code::NOT_SATISFIED };
+    tally.check("a close is accepted when SSW is done", code == expected, &case);
+    tally.cover("SSW done", "SSW not done", done);
+    check_equal_secure(tally, small, &workflow, random);
+}
+
+/// Equal forms give the same answers where permissions and workflow are the same.
+fn check_equal_secure(
+    tally: &mut Tally,
+    small: &Small,
+    workflow: &SmallWorkflow,
+    random: &mut Random,
+) {
+    let (steps, action) = (random.below(8), random.pick(&ACTIONS));
+    let equal = terms::equal_form(random, &small.term, steps);
+    let words = small.events.iter().chain(&[Event::Close]);
+    let words: Vec<u32> = words.map(|event| as_word(renumbered(*event, action))).collect();
+    let answers = |term: &Term| {
+        let mut monitor = workflow.open(&Small { term: term.clone(), ..small.clone() });
+        let answer = |word: &u32| (monitor.step(*word).code, monitor.letter(), monitor.state());
+        words.iter().map(answer).collect::<Vec<_>>()
+    };
+    let same =
+        answers(&small.term) == answers(&equal) && answers(&equal) == answers(&equal.normal());
+    tally.check("equal forms, the same answers under a workflow", same, &(small, &equal, workflow));
+}
+
+/// The states that a process reaches from some states by one event.
+fn followed(states: &BTreeSet<Process>, event: literal::Event) -> BTreeSet<Process> {
+    states.iter().flat_map(|state| literal::next(state, event)).collect()
+}
+
+/// The mask for each action against SSW.
+fn check_secure_masks(
+    tally: &mut Tally,
+    monitor: &Monitor<Taken>,
+    states: &BTreeSet<Process>,
+    case: &dyn std::fmt::Debug,
+) {
+    for action in ACTIONS {
+        let engages = |user: &usize| {
+            !followed(states, literal::Event::Business { user: *user, action }).is_empty()
+        };
+        let users = (0..monitor.users()).filter(engages);
+        let expected: u16 = users.map(|user| 1u16 << user).sum();
+        tally.check("the mask follows SSW", monitor.mask(action) == expected, case);
+    }
 }
 
 /// The monitor against Definitions 6 and 7, event by event: a refused action is not in the trace.
@@ -158,7 +285,7 @@ fn check_run(tally: &mut Tally, small: &Small) {
     let mut raw = monitor.raw();
     let mut states = BTreeSet::from([small.process(Reading::UnitFirst)]);
     let mut trace: Vec<literal::Event> = Vec::new();
-    let mut mask = monitor.mask();
+    let mut mask = monitor.mask(0);
     for (event, label) in small.events.iter().zip(small.trace()) {
         check_mask(tally, small, &states, mask);
         let code = monitor.step(as_word(*event)).code;
@@ -169,23 +296,23 @@ fn check_run(tally: &mut Tally, small: &Small) {
         if code == code::ACCEPTED {
             states = reached;
             trace.push(label);
-            mask = monitor.mask();
+            mask = monitor.mask(0);
         }
-        if let Event::Action { user } = *event {
+        if let Event::Action { user, .. } = *event {
             tally.cover("actions taken", "actions refused", code == code::ACCEPTED);
             let has_role = monitor.raw().user_roles[user] != 0;
             tally.cover("actions tried with a role", "actions tried without a role", has_role);
         }
         let by_bits = raw.step(as_word(*event)).code;
         tally.check("the bits and the roles agree", by_bits == code && raw == monitor.raw(), small);
-        let by_bits = raw.monitor().map(|monitor| monitor.mask());
+        let by_bits = raw.monitor().map(|monitor| monitor.mask(0));
         tally.check("the mask by bits is the same", by_bits == Ok(mask), small);
         check_letter(tally, small, &mut monitor, &trace);
     }
     check_mask(tally, small, &states, mask);
     check_close(tally, small, &mut monitor, &states, &trace);
     let mask = if monitor.letter() == 'd' { 0 } else { mask };
-    tally.check("the mask after a close", monitor.mask() == mask, small);
+    tally.check("the mask after a close", monitor.mask(0) == mask, small);
 }
 
 /// A mask against Definition 7: a user has a bit when the process engages in an action of that
@@ -244,7 +371,7 @@ fn actions_of(small: &Small) -> Vec<Taken> {
     let mut actions = Vec::new();
     for event in &small.events {
         match *event {
-            Event::Action { user } => {
+            Event::Action { user, .. } => {
                 actions.push(Taken { user, held: held[user].clone() });
             }
             Event::Grant { user, role } => {

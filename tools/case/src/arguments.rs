@@ -13,10 +13,11 @@ usage: case VERB [INPUT] [-o OUTPUT]
   write        makes a case file from a text
   show         shows a case file as text
   run          runs a text or a case file: for each event its place, its
-               number, the status, the event, who may act then, and what the
-               number says
-  words c      prints a policy's words as an array for C
-  words rust   prints them as an array for Rust
+               number, the status, the event, who may act then (with a
+               workflow, for each action), and what the number says
+  words c      prints a policy's words as an array for C, and the bytes of
+               permissions and workflow if there are any
+  words rust   prints them as arrays for Rust
   normal       prints a policy's normal form
 
 INPUT is a file, else standard input; OUTPUT a file, else standard output.

@@ -2,23 +2,39 @@
 //! shows them as such text, runs them through the linked library, and prints a policy's words and
 //! its normal form. `case --help` lists the verbs.
 //!
-//! A text has five parts, each begun by its name; `#` begins a comment.
+//! A text has five parts, each begun by its name, and three more that it need not have; `#` begins a
+//! comment.
 //!
 //! ```text
 //! users 3
-//! roles 3
+//! roles counter editor approver
+//! actions
+//!   1: count
+//!   2: approve
 //! policy
-//!   together(role 0, either(role 2, not set 0 1))
+//!   together(role 0, either(role approver, not set 0 1))
 //! grants
 //!   0: 1
-//!   1: 0 2
+//!   1: counter 2
 //!   2:
+//! permissions
+//!   counter: count
+//!   editor:
+//!   approver: approve
+//! workflow
+//!   states begun counted approved
+//!   final approved
+//!   begun: count -> counted
+//!   counted: approve -> approved
 //! events
-//!   act 0 1
+//!   act 0 count
 //!   grant 1 2
 //!   revoke 1 2
 //!   close
 //! ```
+//!
+//! Users, roles and states are a number or their names, in order; `actions` names actions. Permissions
+//! and workflow stand together or not at all. In their place `none` is an empty part, `raw` any bytes.
 //!
 //! A policy is a list of words in prefix order, in 01's names. Parentheses after a word hold its
 //! sides and are checked; they may be left out. `revoke` may also be called `withdraw`. What a text
@@ -30,13 +46,16 @@
 #![forbid(unsafe_code)]
 
 mod arguments;
+mod declared;
 mod file;
 mod mark;
 mod monitor;
 mod names;
+mod plan;
 mod policy;
 mod quote;
 mod run;
+mod secure;
 mod show;
 mod streams;
 #[cfg(test)]
@@ -51,6 +70,8 @@ use std::process::ExitCode;
 
 use arguments::{Command, Verb, USAGE};
 use file::Case;
+use text::Source;
+use words::Language;
 
 fn main() -> ExitCode {
     let arguments: Vec<OsString> = std::env::args_os().skip(1).collect();
@@ -96,12 +117,9 @@ fn answer(verb: Verb, input: &[u8]) -> Result<(Vec<u8>, bool), String> {
             let shown = show::file(input);
             Ok((shown.text.into(), shown.malformed.is_none()))
         }
-        Verb::Run if text::is_case_file(input) => Ok(ran(input, &[])),
-        Verb::Run => Ok(ran(&written(input)?, &lines(input)?)),
-        Verb::Words(language) => {
-            let (case, _) = accepted_policy(input)?;
-            Ok((words::array(language, &case.policy, case.counts()).into(), true))
-        }
+        Verb::Run if text::is_case_file(input) => Ok(ran(input, None)),
+        Verb::Run => Ok(ran(&written(input)?, source(input)?.as_ref())),
+        Verb::Words(language) => Ok((arrays(language, input)?.into(), true)),
         Verb::Normal => {
             let (case, normal) = accepted_policy(input)?;
             Ok(((show::term(&normal, case.counts(), 0) + "\n").into(), true))
@@ -114,15 +132,15 @@ fn written(input: &[u8]) -> Result<Vec<u8>, String> {
     text::decode(input).and_then(text::write).map_err(|fault| fault.to_string())
 }
 
-/// The line of each policy word of a text.
-fn lines(input: &[u8]) -> Result<Vec<usize>, String> {
-    text::decode(input).and_then(text::policy_lines).map_err(|fault| fault.to_string())
+/// What a text adds to its case file.
+fn source(input: &[u8]) -> Result<Option<Source<'_>>, String> {
+    text::decode(input).and_then(text::source).map_err(|fault| fault.to_string())
 }
 
-/// What is printed of a case file's run, and whether it was accepted. Where it was a text, `lines`
-/// are those in which its policy words stand.
-fn ran(bytes: &[u8], lines: &[usize]) -> (Vec<u8>, bool) {
-    let report = run::report(bytes, lines);
+/// What is printed of a case file's run, and whether it was accepted. The source is its text, if it was
+/// one.
+fn ran(bytes: &[u8], source: Option<&Source>) -> (Vec<u8>, bool) {
+    let report = run::report(bytes, source);
     (report.text.into(), report.accepted)
 }
 
@@ -134,7 +152,20 @@ fn policy_of(input: &[u8]) -> Result<(Case, Vec<usize>), String> {
     }
     let case =
         text::decode(input).and_then(text::policy_alone).map_err(|fault| fault.to_string())?;
-    Ok((case, lines(input)?))
+    Ok((case, source(input)?.map_or(vec![], |source| source.lines)))
+}
+
+/// The arrays of an input's policy and, if it has them, of its permissions and workflow.
+fn arrays(language: Language, input: &[u8]) -> Result<String, String> {
+    let (mut case, _) = accepted_policy(input)?;
+    if !text::is_case_file(input) {
+        let own = text::decode(input).and_then(text::secure_alone);
+        case.secure = case.secure.or(own.map_err(|fault| fault.to_string())?);
+    }
+    let policy = words::array(language, &case.policy, case.counts());
+    let given = plan::read(&case).map_err(|reason| format!("refused 19: {reason}"))?;
+    let more = given.map(|(rows, workflow)| words::secure_arrays(language, &rows, &workflow));
+    Ok(policy + &more.unwrap_or_default())
 }
 
 /// The policy of an input, which the library accepts, and its normal form.

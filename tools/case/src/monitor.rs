@@ -4,7 +4,7 @@ use std::fmt;
 
 use oskhrein::{Monitor, Refusal, Workspace};
 
-use crate::file::Case;
+use crate::file::{Case, Secure};
 
 /// The most words of a policy.
 pub const MOST_WORDS: usize = oskhrein::MAX_WORDS;
@@ -12,6 +12,15 @@ pub const MOST_WORDS: usize = oskhrein::MAX_WORDS;
 pub const MOST_USERS: usize = oskhrein::MAX_USERS;
 /// The most roles.
 pub const MOST_ROLES: usize = oskhrein::MAX_ROLES;
+/// The most states of a workflow.
+pub const MOST_STATES: usize = oskhrein::MAX_STATES;
+/// The most transitions of a workflow.
+pub const MOST_TRANSITIONS: usize = oskhrein::MAX_TRANSITIONS;
+/// The last number of an action that permissions and transitions may name.
+pub const MOST_PERMITTED: u32 = oskhrein::ACTION_NUMBERS as u32 - 1;
+
+/// The number of permissions and a workflow that are out of form.
+pub const OUT_OF_FORM: u8 = Refusal::Workflow.number();
 
 /// A refusal: its number, the place of a policy's fault, and what the number says.
 #[derive(Clone, Debug, PartialEq, Eq)]
@@ -60,8 +69,10 @@ pub struct Opened {
 /// # Errors
 /// The opening's refusal.
 pub fn open(case: &Case) -> Result<Opened, Refused> {
-    let monitor = Monitor::open(case.users, case.roles, &case.policy, &case.grants)?;
-    Ok(Opened { monitor, workspace: Workspace::new() })
+    let Case { users, roles, policy, grants, .. } = case;
+    let Secure { permissions, workflow } = case.secure.clone().unwrap_or_default();
+    let opened = Monitor::open_bytes(*users, *roles, policy, grants, &permissions, &workflow);
+    Ok(Opened { monitor: opened?, workspace: Workspace::new() })
 }
 
 impl Opened {
@@ -70,7 +81,29 @@ impl Opened {
     /// # Errors
     /// The event's refusal.
     pub fn event(&mut self, word: u32) -> Result<(), Refused> {
-        Ok(self.monitor.event_word(word, &mut self.workspace)?)
+        match self.monitor.event_word(word, &mut self.workspace) {
+            Err(Refusal::NotSatisfied) => {
+                let sentence = self.missing().to_string();
+                Err(Refused { sentence, ..Refusal::NotSatisfied.into() })
+            }
+            answer => Ok(answer?),
+        }
+    }
+
+    /// What a refused close lacks: its number is one for the policy and the workflow.
+    fn missing(&mut self) -> &'static str {
+        let ended =
+            !self.has_workflow() || self.monitor.final_states() >> self.monitor.state() & 1 == 1;
+        match (self.status(), ended) {
+            ('o', true) => "close, but not satisfied",
+            ('o', false) => "close, but not satisfied, and the workflow is in no final state",
+            _ => "close, but the workflow is in no final state",
+        }
+    }
+
+    /// Whether permissions and a workflow are given.
+    pub fn has_workflow(&self) -> bool {
+        self.monitor.states() != 0
     }
 
     /// The letter of the status.
@@ -79,9 +112,9 @@ impl Opened {
         status.expect("what was opened and sent events stays well formed").letter()
     }
 
-    /// The users who may act, bit u for user u.
-    pub fn enabled(&mut self) -> u16 {
-        let users = self.monitor.enabled(&mut self.workspace);
+    /// The users who may act with this number, bit u for user u.
+    pub fn enabled(&mut self, action: u8) -> u16 {
+        let users = self.monitor.enabled(action, &mut self.workspace);
         users.expect("what was opened and sent events stays well formed").bits()
     }
 

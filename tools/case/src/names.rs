@@ -1,5 +1,8 @@
 //! The names of policy words and event words: 01's names, and `revoke`, which 01 calls `withdraw`.
 
+use crate::declared::Declared;
+use crate::tokens::PARTS;
+
 /// The kinds of policy words from kind 1 on: the name, and how many sides follow.
 const TERMS: [(&str, usize); 9] = [
     ("everyone", 0),
@@ -14,6 +17,8 @@ const TERMS: [(&str, usize); 9] = [
 ];
 /// The names of the kinds of event words from kind 1 on.
 const EVENTS: [&str; 4] = ["act", "grant", "revoke", "close"];
+/// The other words that mean something in a text, or in what is printed of a run.
+const OTHERS: [&str; 8] = ["withdraw", "word", "states", "final", "none", "raw", "by", "nobody"];
 /// The kind of a role.
 pub const ROLE: u32 = 2;
 /// The kind of a set.
@@ -55,6 +60,12 @@ pub fn event_kind(name: &str) -> Option<u32> {
     EVENTS.iter().zip(1..).find(|(own, _)| **own == name).map(|(_, kind)| kind)
 }
 
+/// Whether a word means something in a text, so that it names no user, role, action or state.
+pub fn is_reserved(word: &str) -> bool {
+    let known = PARTS.contains(&word) || OTHERS.contains(&word);
+    known || term_kind(word).is_some() || event_kind(word).is_some()
+}
+
 /// What the table has of a policy word's kind.
 fn term(word: u32) -> Option<(&'static str, usize)> {
     let place = (word >> 24).checked_sub(1)?;
@@ -84,10 +95,14 @@ fn raw(word: u32) -> String {
     format!("word {word:#010x}")
 }
 
-/// The numbers of the bits that are set, each behind a blank.
-pub fn members(bits: u32) -> String {
-    let set = (0..u32::BITS).filter(|bit| bits >> bit & 1 == 1);
-    set.map(|bit| format!(" {bit}")).collect()
+/// The numbers of the bits that are set.
+pub fn bits(mask: u64) -> impl Iterator<Item = u32> {
+    (0..u64::BITS).filter(move |bit| mask >> bit & 1 == 1)
+}
+
+/// The same as text, each behind a blank.
+pub fn members(mask: impl Into<u64>) -> String {
+    bits(mask.into()).map(|bit| format!(" {bit}")).collect()
 }
 
 /// A policy word by name, where a text may name it.
@@ -104,17 +119,21 @@ pub fn term_word(word: u32, counts: Counts) -> String {
 }
 
 /// An event word by name, where a text may name it.
-pub fn event_word(word: u32, counts: Counts) -> String {
+pub fn event_word(word: u32, declared: &Declared) -> String {
     let [low, user, zero, kind] = word.to_le_bytes().map(u32::from);
+    let counts = declared.counts();
     let name = EVENTS.iter().zip(1..).find(|(_, own)| *own == kind).map(|(name, _)| *name);
-    let declared = match kind {
+    let is_declared = match kind {
         CLOSE => word == CLOSE << 24,
         ACTION => counts.has_user(user),
         _ => counts.has_user(user) && counts.has_role(low),
     };
+    let low_names = if kind == ACTION { &declared.actions } else { &declared.roles };
     match name {
-        Some(name) if declared && kind == CLOSE => name.to_string(),
-        Some(name) if declared && zero == 0 => format!("{name} {user} {low}"),
+        Some(name) if is_declared && kind == CLOSE => name.to_string(),
+        Some(name) if is_declared && zero == 0 => {
+            format!("{name} {} {}", declared.users.name(user), low_names.name(low))
+        }
         _ => raw(word),
     }
 }

@@ -1,9 +1,10 @@
 //! The policy of a text: words in prefix order, whose sides may stand in parentheses.
 
+use crate::declared::Declared;
 use crate::monitor::MOST_WORDS;
-use crate::names::{sides, term_kind, Counts, ROLE, SET};
+use crate::names::{sides, term_kind, ROLE, SET};
 use crate::quote::quoted;
-use crate::tokens::{declared, fault, number, Fault, Part, Token};
+use crate::tokens::{fault, number, Fault, Part, Token};
 
 /// A word that waits for sides.
 struct Open {
@@ -26,7 +27,7 @@ pub struct Policy {
 struct Reader<'a> {
     tokens: &'a [Token<'a>],
     line: usize,
-    counts: Counts,
+    declared: &'a Declared<'a>,
     read: Policy,
     open: Vec<Open>,
 }
@@ -35,10 +36,10 @@ struct Reader<'a> {
 ///
 /// # Errors
 /// The first fault: something undeclared, missing or too many, or no policy word.
-pub fn read(part: &Part, counts: Counts) -> Result<Policy, Fault> {
+pub fn read(part: &Part, declared: &Declared) -> Result<Policy, Fault> {
     let (tokens, line) = (&part.tokens, part.line);
     let read = Policy { words: vec![], lines: vec![] };
-    let mut reader = Reader { tokens, line, counts, read, open: vec![] };
+    let mut reader = Reader { tokens, line, declared, read, open: vec![] };
     reader.word()?;
     while reader.wants_side()? {
         reader.word()?;
@@ -117,7 +118,7 @@ impl<'a> Reader<'a> {
         match term_kind(name) {
             Some(ROLE) => {
                 let role = self.operand("a role")?;
-                Ok(ROLE << 24 | declared(role, "role", self.counts.roles)?)
+                Ok(ROLE << 24 | self.declared.roles.number(role)?)
             }
             Some(SET) => Ok(SET << 24 | self.set()?),
             Some(kind) => Ok(kind << 24),
@@ -131,16 +132,21 @@ impl<'a> Reader<'a> {
         let mut users = 0;
         loop {
             let token = self.operand("a user")?;
-            let user = declared(token, "user", self.counts.users)?;
+            let user = self.declared.users.number(token)?;
             if users >> user & 1 == 1 {
                 return fault(token.line, format!("user {user} stands here a second time"));
             }
             users |= 1 << user;
-            let is_digit = |c: char| c.is_ascii_digit();
-            if !self.tokens.first().is_some_and(|token| token.text.starts_with(is_digit)) {
+            if !self.tokens.first().is_some_and(|token| self.is_user(token)) {
                 return Ok(users);
             }
         }
+    }
+
+    /// Whether a token goes on with a set: a number, or the name of a user.
+    fn is_user(&self, token: &Token) -> bool {
+        let is_digit = |c: char| c.is_ascii_digit();
+        token.text.starts_with(is_digit) || self.declared.users.find(token.text).is_some()
     }
 
     /// An operand that must stand here.

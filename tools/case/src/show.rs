@@ -1,8 +1,10 @@
 //! Case to text.
 
-use crate::file::{self, Case};
+use crate::declared::Declared;
+use crate::file::{self, Case, Secure};
 use crate::monitor::MOST_WORDS;
 use crate::names::{event_word, is_one_term, members, sides, term_word, Counts};
+use crate::plan::{self, Workflow};
 use crate::text;
 use crate::words::depths;
 
@@ -43,23 +45,60 @@ fn case(case: &Case) -> String {
     text += &policy(&case.policy, case.counts());
     text += "grants\n";
     for (user, row) in case.grants.iter().enumerate() {
-        text += &format!("  {user}:{}\n", members(u32::from(*row)));
+        text += &format!("  {user}:{}\n", members(*row));
+    }
+    if let Some(Secure { permissions, workflow }) = &case.secure {
+        let rows = plan::rows(permissions, case.roles).map(|rows| self::rows(&rows));
+        text += &part("permissions", permissions, rows.ok());
+        text += &part("workflow", workflow, plan::workflow(workflow).as_ref().map(plan_lines).ok());
     }
     text += "events\n";
     for word in &case.events {
-        text += &format!("  {}\n", event_word(*word, case.counts()));
+        text += &format!("  {}\n", event_word(*word, &Declared::numbered(case.counts())));
     }
     text
 }
 
+/// A part by these lines, if there are any: those that say it. Else it is empty or out of form.
+fn part(name: &str, bytes: &[u8], lines: Option<String>) -> String {
+    match lines {
+        _ if bytes.is_empty() => format!("{name} none\n"),
+        Some(lines) => format!("{name}\n{lines}"),
+        None => format!("{name} raw\n{}", hexadecimal(bytes)),
+    }
+}
+
+/// The lines of permissions.
+fn rows(rows: &[u64]) -> String {
+    let line = |(role, row): (usize, &u64)| format!("  {role}:{}\n", members(*row));
+    rows.iter().enumerate().map(line).collect()
+}
+
+/// The lines of a workflow.
+fn plan_lines(workflow: &Workflow) -> String {
+    let Workflow { states, final_states, transitions } = workflow;
+    let line = |own: &[u8; 3]| format!("  {}\n", transition(own));
+    let transitions: String = transitions.iter().map(line).collect();
+    format!("  states {states}\n  final{}\n{transitions}", members(*final_states))
+}
+
+/// A transition: its state, action and next state.
+pub fn transition([state, action, next]: &[u8; 3]) -> String {
+    format!("{state}: {action} -> {next}")
+}
+
 /// The text that says all bytes of a file.
 fn raw(bytes: &[u8]) -> String {
-    let mut text = "bytes\n".to_string();
-    for line in bytes.chunks(16) {
-        let line: Vec<String> = line.iter().map(|byte| format!("{byte:02x}")).collect();
-        text += &format!("  {}\n", line.join(" "));
-    }
-    text
+    "bytes\n".to_string() + &hexadecimal(bytes)
+}
+
+/// Bytes in hexadecimal, sixteen a line.
+fn hexadecimal(bytes: &[u8]) -> String {
+    let line = |bytes: &[u8]| {
+        let line: Vec<String> = bytes.iter().map(|byte| format!("{byte:02x}")).collect();
+        format!("  {}\n", line.join(" "))
+    };
+    bytes.chunks(16).map(line).collect()
 }
 
 /// The lines of a policy: a term with its sides in parentheses, or, where the words are not one

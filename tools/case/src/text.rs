@@ -1,11 +1,12 @@
 //! Text to case.
 
-use crate::file::{self, Case, MOST_EVENTS};
-use crate::monitor::{MOST_ROLES, MOST_USERS};
-use crate::names::{event_kind, Counts, ACTION, CLOSE};
+use crate::declared::{Declared, Names, MOST_ACTION};
+use crate::file::{self, Case, Secure, MOST_EVENTS};
+use crate::names::{event_kind, ACTION, CLOSE};
 use crate::policy;
 use crate::quote::quoted;
-use crate::tokens::{declared, fault, number, parts, Fault, Part, Parts, Token};
+use crate::secure;
+use crate::tokens::{fault, number, parts, Fault, Part, Parts, Token};
 
 /// Byte order marks, and whose they are.
 const ORDER_MARKS: [(&[u8], &str); 3] =
@@ -33,71 +34,72 @@ pub fn decode(bytes: &[u8]) -> Result<&str, Fault> {
         .or_else(|error| fault(line(error.valid_up_to()), "a byte that is not UTF-8"))
 }
 
-/// A part that is one number from 1 to a most.
-fn count(name: &str, part: &Part, most: usize) -> Result<u8, Fault> {
-    let [token] = part.tokens[..] else {
-        return fault(part.line, format!("`{name}` is followed by one number"));
-    };
-    match number(token, most as u32) {
-        Ok(count @ 1..) => Ok(count as u8),
-        _ => {
-            let said = quoted(token.text);
-            fault(token.line, format!("{said} is no number of {name} from 1 to {most}"))
-        }
-    }
-}
-
-/// How many users and roles a text declares.
-fn counts(parts: &Parts) -> Result<Counts, Fault> {
-    let users = count("users", parts.need("users")?, MOST_USERS)?;
-    let roles = count("roles", parts.need("roles")?, MOST_ROLES)?;
-    Ok(Counts { users, roles })
-}
-
-/// The rows of the grants, a line a user.
-fn grants(part: &Part, counts: Counts) -> Result<Vec<u16>, Fault> {
+/// A line for each of some keys, in their order, `KEY: VALUE VALUE ..`: bit v for value v. `form` tells
+/// that, and `what` is one value.
+///
+/// # Errors
+/// The first fault of the lines.
+pub fn rows(
+    part: &Part,
+    form: &str,
+    keys: &Names,
+    what: &str,
+    value: impl Fn(Token) -> Result<u32, Fault>,
+) -> Result<Vec<u64>, Fault> {
     let mut rows = Vec::new();
     for tokens in part.lines() {
         let line = tokens[0].line;
-        let [user, Token { text: ":", .. }, roles @ ..] = tokens else {
-            return fault(line, "a line of the grants is `USER: ROLE ROLE ..`");
+        let [key, Token { text: ":", .. }, values @ ..] = tokens else {
+            return fault(line, form);
         };
-        if declared(*user, "user", counts.users)? as usize != rows.len() {
-            return fault(line, format!("the line of user {} is due here", rows.len()));
+        if keys.number(*key)? as usize != rows.len() {
+            return fault(line, format!("{} is due here", keys.line_of(rows.len())));
         }
-        rows.push(row(roles, counts)?);
+        rows.push(row(values, what, &value)?);
     }
-    if rows.len() < usize::from(counts.users) {
-        let message = format!("the line of user {} is missing behind this one", rows.len());
+    if rows.len() < keys.count() as usize {
+        let message = format!("{} is missing behind this one", keys.line_of(rows.len()));
         return fault(part.last_line(), message);
     }
     Ok(rows)
 }
 
-/// The roles of one user.
-fn row(roles: &[Token], counts: Counts) -> Result<u16, Fault> {
+/// The values of one line.
+fn row(
+    values: &[Token],
+    what: &str,
+    value: &impl Fn(Token) -> Result<u32, Fault>,
+) -> Result<u64, Fault> {
     let mut row = 0;
-    for token in roles {
-        let role = declared(*token, "role", counts.roles)?;
-        if row >> role & 1 == 1 {
-            return fault(token.line, format!("role {role} stands here a second time"));
+    for token in values {
+        let value = value(*token)?;
+        if row >> value & 1 == 1 {
+            return fault(token.line, format!("{what} {value} stands here a second time"));
         }
-        row |= 1 << role;
+        row |= 1 << value;
     }
     Ok(row)
 }
 
+/// The rows of the grants, a line a user.
+fn grants(part: &Part, declared: &Declared) -> Result<Vec<u16>, Fault> {
+    let role = |token: Token| declared.roles.number(token);
+    let form = "a line of the grants is `USER: ROLE ROLE ..`";
+    let rows = rows(part, form, &declared.users, "role", role)?;
+    Ok(rows.into_iter().map(|row| row as u16).collect())
+}
+
 /// One event word from its line.
-fn event(tokens: &[Token], counts: Counts) -> Result<u32, Fault> {
+fn event(tokens: &[Token], declared: &Declared) -> Result<u32, Fault> {
     let Token { line, text: name } = tokens[0];
     match (event_kind(name), &tokens[1..]) {
         (Some(CLOSE), []) => Ok(CLOSE << 24),
         (Some(CLOSE), _) => fault(line, "`close` stands alone"),
         (Some(kind), [user, low]) => {
-            let user = declared(*user, "user", counts.users)?;
+            let user = declared.users.number(*user)?;
             let low = match kind {
-                ACTION => number(*low, 255)?,
-                _ => declared(*low, "role", counts.roles)?,
+                ACTION => declared.actions.any_number(*low, MOST_ACTION)?,
+                _ => declared.roles.number(*low)?,
             };
             Ok(kind << 24 | user << 8 | low)
         }
@@ -110,28 +112,31 @@ fn event(tokens: &[Token], counts: Counts) -> Result<u32, Fault> {
 }
 
 /// The event words.
-fn events(part: &Part, counts: Counts) -> Result<Vec<u32>, Fault> {
+fn events(part: &Part, declared: &Declared) -> Result<Vec<u32>, Fault> {
     if let Some(tokens) = part.lines().nth(MOST_EVENTS) {
         return fault(tokens[0].line, format!("one event more than {MOST_EVENTS}"));
     }
-    part.lines().map(|tokens| event(tokens, counts)).collect()
+    part.lines().map(|tokens| event(tokens, declared)).collect()
 }
 
-/// The bytes of a text that says them all.
-fn bytes(part: &Part) -> Result<Vec<u8>, Fault> {
+/// Bytes in hexadecimal.
+///
+/// # Errors
+/// The first token that is none.
+pub fn bytes(tokens: &[Token]) -> Result<Vec<u8>, Fault> {
     let is_digit = |c: char| c.is_ascii_hexdigit();
     let byte = |token: &Token| match u8::from_str_radix(token.text, 16) {
         Ok(byte) if token.text.chars().all(is_digit) => Ok(byte),
         _ => fault(token.line, format!("{} is no byte from 00 to ff", quoted(token.text))),
     };
-    part.tokens.iter().map(byte).collect()
+    tokens.iter().map(byte).collect()
 }
 
 /// The bytes of a text that says them all, if it is one.
 fn raw(parts: &Parts) -> Result<Option<Vec<u8>>, Fault> {
     match parts.get("bytes") {
         None => Ok(None),
-        Some(part) if parts.count() == 1 => bytes(part).map(Some),
+        Some(part) if parts.count() == 1 => bytes(&part.tokens).map(Some),
         Some(part) => fault(part.line, "`bytes` stands alone, with no other part"),
     }
 }
@@ -145,13 +150,15 @@ pub fn write(text: &str) -> Result<Vec<u8>, Fault> {
     if let Some(bytes) = raw(&parts)? {
         return Ok(bytes);
     }
-    let counts = counts(&parts)?;
+    let declared = Declared::of(&parts)?;
+    let counts = declared.counts();
     Ok(file::write(&Case {
         users: counts.users,
         roles: counts.roles,
-        policy: policy::read(parts.need("policy")?, counts)?.words,
-        grants: grants(parts.need("grants")?, counts)?,
-        events: events(parts.need("events")?, counts)?,
+        policy: policy::read(parts.need("policy")?, &declared)?.words,
+        grants: grants(parts.need("grants")?, &declared)?,
+        events: events(parts.need("events")?, &declared)?,
+        secure: secure::read(&parts, &declared)?,
     }))
 }
 
@@ -164,19 +171,42 @@ pub fn policy_alone(text: &str) -> Result<Case, Fault> {
     if let Some(bytes) = raw(&parts)? {
         return file::read(&bytes).or_else(|reason| fault(1, reason));
     }
-    let counts = counts(&parts)?;
-    let policy = policy::read(parts.need("policy")?, counts)?.words;
+    let declared = Declared::of(&parts)?;
+    let counts = declared.counts();
+    let policy = policy::read(parts.need("policy")?, &declared)?.words;
     Ok(Case { users: counts.users, roles: counts.roles, policy, ..Case::default() })
 }
 
-/// The line of each policy word of a text. One that says bytes has none.
+/// The permissions and the workflow of a text, if it has them. One that says bytes has none.
 ///
 /// # Errors
-/// The first fault of the counts and the policy.
-pub fn policy_lines(text: &str) -> Result<Vec<usize>, Fault> {
+/// The first fault of these and of what they name.
+pub fn secure_alone(text: &str) -> Result<Option<Secure>, Fault> {
     let parts = parts(text)?;
     if parts.get("bytes").is_some() {
-        return Ok(vec![]);
+        return Ok(None);
     }
-    Ok(policy::read(parts.need("policy")?, counts(&parts)?)?.lines)
+    secure::read(&parts, &Declared::of(&parts)?)
+}
+
+/// What a text adds to its case file.
+pub struct Source<'a> {
+    /// The line of each policy word.
+    pub lines: Vec<usize>,
+    /// The names.
+    pub declared: Declared<'a>,
+}
+
+/// What a text adds to its case file; nothing if it says bytes.
+///
+/// # Errors
+/// The first fault of the counts, names and policy.
+pub fn source(text: &str) -> Result<Option<Source<'_>>, Fault> {
+    let parts = parts(text)?;
+    if parts.get("bytes").is_some() {
+        return Ok(None);
+    }
+    let declared = Declared::of(&parts)?;
+    let lines = policy::read(parts.need("policy")?, &declared)?.lines;
+    Ok(Some(Source { lines, declared }))
 }

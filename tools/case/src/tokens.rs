@@ -25,7 +25,8 @@ pub fn fault<T>(line: usize, message: impl Into<String>) -> Result<T, Fault> {
 }
 
 /// The names with which parts begin.
-const PARTS: [&str; 6] = ["users", "roles", "policy", "grants", "events", "bytes"];
+pub const PARTS: [&str; 9] =
+    ["users", "roles", "actions", "policy", "grants", "permissions", "workflow", "events", "bytes"];
 
 /// A word, number or sign of the text, and its line.
 #[derive(Clone, Copy, Debug)]
@@ -157,16 +158,4 @@ pub fn number(token: Token, most: u32) -> Result<u32, Fault> {
         Ok(number) if only_digits && number <= most => Ok(number),
         _ => fault(token.line, format!("{} is no number from 0 to {most}", quoted(token.text))),
     }
-}
-
-/// The number of a user or role, of which so many are declared.
-///
-/// # Errors
-/// If it is no number, or not declared.
-pub fn declared(token: Token, what: &str, count: u8) -> Result<u32, Fault> {
-    let number = number(token, 0xffff)?;
-    if number < u32::from(count) {
-        return Ok(number);
-    }
-    fault(token.line, format!("{what} {number} is not declared: the last is {what} {}", count - 1))
 }

@@ -14,22 +14,22 @@ use Rattle.embed.proofs.enabled_of.Tie as tie
 abbrev left : ℕ → EnabledOutcome → LentOutcome
 left users o = record { code = enabledNumber (o .answer); users = usersLeft (o .answer) users; workspace = o .workspace }
 
-known : (m : Monitor) (users : ℕ) (before after : List ℕ) (r s : Enabled) → r ≡ s → record { answer = r; workspace = after } ≡ enabledOf m before
-    → left users (record { answer = s; workspace = after }) ≡ enabledLent m users before
+known : (m : Monitor) (action users : ℕ) (before after : List ℕ) (r s : Enabled) → r ≡ s → record { answer = r; workspace = after } ≡ enabledOf m action before
+    → left users (record { answer = s; workspace = after }) ≡ enabledLent m action users before
 unfolding enabledLent
-known m users before after r s e l = ap (λ (x : Enabled). left users (record { answer = x; workspace = after })) (sym e) ∙ ap (left users) l
+known m action users before after r s e l = ap (λ (x : Enabled). left users (record { answer = x; workspace = after })) (sym e) ∙ ap (left users) l
 
 returns : tie.Need-returns
 returns c =
     let s = c .before .before .before .before .before in
     let a = s .before .before .before .args in
-    known (a .monitor) (a .users) (a .workspace .now) (s .enabled .last .1 .0) _ _ (c .before .mask .given .1) (s .enabled .ensures)
+    known (a .monitor) (a .action) (a .users) (a .workspace .now) (s .enabled .last .1 .1 .0) _ _ (c .before .mask .given .1) (s .enabled .ensures)
 
 returns-2 : tie.Need-returns-2
 returns-2 c =
     let s = c .before .before .before .before .before in
     let a = s .before .before .before .args in
-    known (a .monitor) (a .users) (a .workspace .now) (s .enabled .last .1 .0) _ _ (c .before .code .given .1) (s .enabled .ensures)
+    known (a .monitor) (a .action) (a .users) (a .workspace .now) (s .enabled .last .1 .1 .0) _ _ (c .before .code .given .1) (s .enabled .ensures)
 
 pub enabled-of-spec : {M : Type 1} → statement M
 enabled-of-spec =

@@ -81,8 +81,8 @@ module _ {M : Type 1} (𝓤 : URA M) (H : Heap 𝓤) (A : Atoms 𝓤) (W : Given
       move ! (1 ∷ []) $ fsplit ! $ drop ! $ fsplit ! $ drop ! $ fsplit ! $ fsplit ! $ move ! (1 ∷ []) $ feqL ! (λ l.
       -- [the workspace's last list; true; the workspace's token; the monitor's cell; the open borrow; _7; …]
       land ! (from ! (stop !)) (init ! 9 refl (LL.lawful N.the-type N′.the-laws 𝓤 H A W .typed r _ is .0)) $
-      assigns ! (of-opd ! (load ! (from ! (fld ! refl (stop !))) (look-in ! 9 (sub ! 1 refl (whole !))))) (from ! (hop ! (look ! 17 refl) (stop !))) (store ! 3 refl (LL.lawful I.the-type I′.the-laws 𝓤 H A W .typed (r .monitor) _ (monitor-is r is) .0)) $
-      sets ! (of-opd ! (load ! (from ! (fld ! refl (stop !))) (look-in ! 9 (sub ! 0 refl (whole !))))) 19 refl (tt, record { fits = code-fits r is }) $
+      assigns ! (of-opd ! (load ! (from ! (fld ! refl (stop !))) (look-in ! 9 (sub ! 0 refl (whole !))))) (from ! (hop ! (look ! 17 refl) (stop !))) (store ! 3 refl (LL.lawful I.the-type I′.the-laws 𝓤 H A W .typed (r .monitor) _ (monitor-is r is) .0)) $
+      sets ! (of-opd ! (load ! (from ! (fld ! refl (stop !))) (look-in ! 9 (sub ! 1 refl (whole !))))) 19 refl (tt, record { fits = code-fits r is }) $
       move ! (3 ∷ 4 ∷ []) $ closes-ref monitor ! tt (a .0) (r .monitor) (monitor-is r is) $
       -- [the monitor's borrow and token; the workspace's last list; true; the workspace's token; _7; …]
       returns ! (look ! 19 refl) $ goes ! 19 refl refl $ goes ! 17 refl refl $ goes ! 15 refl refl $ goes ! 13 refl refl $ goes ! 11 refl refl $ goes ! 9 refl refl $ goes ! 7 refl refl $ goes ! 5 refl refl $ free0 ! $

@@ -17,8 +17,7 @@ use Rattle.policy.specs.Faults.{codeNumber}
 use Rattle.policy.proofs.Places.{code-has-number}
 use Rattle.workspace.specs.Workspace.{filled}
 use Rattle.instance.specs.Configurations.{isZero}
-use Rattle.monitor.specs.Monitors.{Opening, given, policy, openCode, codeIn}
-use Rattle.monitor.specs.declared.Opened.{Opened}
+use Rattle.monitor.specs.Monitors.{Opening, bare, policy, openCode, codeIn}
 use Rattle.multiset.specs.MultisetTest.{total, listed, notedBy, testRefusals, testCode}
 use Rattle.multiset.proofs.Listed.{total-zero}
 use Rattle.multiset.proofs.Answers.{counted, fillable, code-opening, code-own, refused-test, refused-plain, yes-test, no-test}
@@ -30,7 +29,7 @@ counts-length s = search needs
 
 -- what the test is given
 abbrev asked : tie.Start → Opening
-asked s = given (s .args .users) (s .args .roles) (s .args .words .now) (s .args .rows .now)
+asked s = bare (s .args .users) (s .args .roles) (s .args .words .now) (s .args .rows .now)
 
 -- the slices are known
 abbrev first : tie.After-slice-known → tie.Start
@@ -50,12 +49,12 @@ module _ (e : tie.Else1) where
   long : ltb (length (start .args .workspace .now)) 8192 ≡ false
   long = le-ltb (length (start .args .workspace .now)) 8192 (e .if1 .left)
 
-open-requires : tie.Need-open-requires
-open-requires c κs = search needs
+open-bare-requires : tie.Need-open-bare-requires
+open-bare-requires c κs = search needs
 
 -- ── the opening's numbers ──
-opened-code : (c : tie.After-open) → let o = asked (start (c .before)) in c .«open» .result .code ≡ codeIn o (openCode o)
-opened-code c = ap (λ (x : Opened). x .code) (c .«open» .ensures)
+opened-code : (c : tie.After-open-bare) → let o = asked (start (c .before)) in c .open-bare .result ≡ codeIn o (openCode o)
+opened-code c = c .open-bare .ensures
 
 opened-number : (c : tie.After-number-of) → c .number-of .result ≡ openCode (asked (start (c .before .before)))
 opened-number c =
@@ -68,7 +67,7 @@ returns-2 c =
     let o = n .before in
     let s = start (o .before) in
     let ne : openCode (asked s) ≢ 0 = λ z. c .if2 .taken (opened-number n ∙ z) in
-    refused-test (asked s) (s .args .counts) (s .args .workspace .now) (o .«open» .result .code) (openCode (asked s)) ne (opened-code o)
+    refused-test (asked s) (s .args .counts) (s .args .workspace .now) (o .open-bare .result) (openCode (asked s)) ne (opened-code o)
     (code-opening (asked s) (s .args .counts) (s .args .workspace .now) (long (o .before)) ne)
 
 module _ (e : tie.Else2) where
@@ -192,7 +191,7 @@ satisfies-spec =
     tie.close
     (tie.spec
     returns
-    open-requires
+    open-bare-requires
     (λ c κs. search needs)
     returns-2
     total-from-requires

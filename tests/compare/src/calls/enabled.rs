@@ -1,5 +1,5 @@
-//! Who may act (02, E1): the number, the mask and the workspace, on raw instances, well formed and
-//! not, and along whole runs beside a mask that is kept.
+//! Who may act (02, E1 and E4): the number, the mask and the workspace for an action's number, on raw
+//! instances, well formed and not, and along whole runs beside masks that are kept.
 
 use std::collections::BTreeSet;
 use std::hint::black_box;
@@ -14,11 +14,13 @@ use reference::raw::RawInstance;
 use reference::workspace::WORDS;
 
 use super::left::Left;
-use super::{byte, Call, RUN_EVERY};
+use super::{byte, opened, Call, RUN_EVERY};
 use crate::leavers::Leavers;
 use crate::lent::Lent;
 use crate::library::laid_out;
+use crate::refusals::Instances;
 use crate::report::Seen;
+use crate::secure::Masks;
 
 /// What the lent mask holds before a call, and what stands on both sides of it.
 const MARK: u16 = 0xa5a5;
@@ -61,19 +63,23 @@ struct Enabled<'a> {
     call: Call,
     kinds: Seen,
     leavers: Leavers,
+    secure: Masks,
+    malformed: Instances,
 }
 
 /// Compares on all edges, on so many random instances, on as many with a bit flipped, and along
 /// runs.
-pub fn compare(library: &Calls, seed: u64, count: usize) -> (Call, [Seen; 2]) {
+pub fn compare(library: &Calls, seed: u64, count: usize) -> (Call, [Seen; 4]) {
     let call = Call::new("enabled", &[0, 12, 15]);
     let kinds = Seen::kinds("enabled", KINDS.map(|(name, _)| name));
-    let mut enabled = Enabled { library, call, kinds, leavers: Leavers::of_masks("enabled") };
+    let (leavers, secure) = (Leavers::of_masks("enabled"), Masks::new("enabled"));
+    let malformed = Instances::new("enabled");
+    let mut enabled = Enabled { library, call, kinds, leavers, secure, malformed };
     let mut random = Random::new(seed);
     for (name, input) in enabled_edges(&mut random) {
         enabled.check(&name, &input);
     }
-    for (name, case) in edges::leavers() {
+    for (name, case) in edges::leavers().into_iter().chain(edges::secure::runs()) {
         enabled.run(&name, &case);
     }
     for turn in 0..count {
@@ -89,20 +95,23 @@ pub fn compare(library: &Calls, seed: u64, count: usize) -> (Call, [Seen; 2]) {
             enabled.run(&format!("run {turn} of seed {seed}"), &case);
         }
     }
-    (enabled.call, [enabled.kinds, enabled.leavers.seen()])
+    let Enabled { call, kinds, leavers, secure, malformed, .. } = enabled;
+    (call, [kinds, leavers.seen(), secure.seen(), malformed.seen()])
 }
 
 impl Enabled<'_> {
     /// Who may act on an instance.
     fn check(&mut self, label: &str, input: &EnabledInput) {
         let raw = &input.instance;
+        self.malformed.count(raw);
         let mut workspace = Lent::new(input.workspace);
-        let answered = raw.enabled(workspace.words());
+        let answered = raw.enabled(input.action, workspace.words());
         if let Ok(mask) = answered {
             let of_it = KINDS.iter().filter(|(_, holds)| holds(raw, mask));
             of_it.for_each(|(name, _)| self.kinds.count_kind(name));
         }
-        self.ask(label, &laid_out(raw), answered, &workspace, input.workspace);
+        let lent = (&workspace, input.workspace);
+        self.ask(label, &laid_out(raw), input.action, answered, lent);
     }
 
     /// Asks the product; the mask that it leaves. A refusal must leave the lent one alone.
@@ -110,58 +119,80 @@ impl Enabled<'_> {
         &mut self,
         label: &str,
         before: &Monitor,
+        action: u8,
         answered: Result<u16, u32>,
-        workspace: &Lent,
-        length: usize,
+        (workspace, length): (&Lent, usize),
     ) -> u16 {
         let (answer, mask) = (byte(answered.map(|_| 0)), answered.unwrap_or(MARK));
         let expected = Left { answer, monitor: before, workspace };
         let (mut monitor, mut workspace, mut users) = (*before, Lent::new(length), [MARK; 3]);
-        let answer = self.library.enabled(&monitor, workspace.words(), &mut users[1]);
+        let answer = self.library.enabled(&monitor, action, workspace.words(), &mut users[1]);
         // Both are looked at anew, so that a write to the monitor or beside the mask would be seen.
         black_box((&mut monitor, &mut users));
         let got = Left { answer, monitor: &monitor, workspace: &workspace };
         let same = expected.same(&got) && users == [MARK, mask, MARK];
         self.call.check(answer, same, || {
-            let input = format!("workspace of {length}, on (hex) {before:x?}");
+            let input = format!("action {action}, workspace of {length}, on (hex) {before:x?}");
             let masks = format!("expected mask {mask:04x}, got {users:04x?}");
             format!("{label}\n  {input}\n{}\n  {masks}", expected.against(&got))
         });
         users[1]
     }
 
-    /// A whole run from the opening as a desk program follows it, which keeps the mask beside the
-    /// monitor and asks anew after accepted events only: what is kept must be what a call answers.
+    /// A whole run from the opening as a desk program follows it, which keeps a mask for each of some
+    /// actions beside the monitor and asks anew after accepted events only: what is kept must be what
+    /// a call answers.
     fn run(&mut self, label: &str, case: &Case) {
-        let Case { users, roles, policy, user_roles, events } = case;
-        let (users, roles) = (*users, *roles);
-        let opened = Grown::<Taken>::open(users.into(), roles.into(), policy, user_roles);
-        let Ok(mut grown) = opened else {
+        let Ok(mut grown) = case.open::<Taken>() else {
             return;
         };
         self.leavers.count_masks(case);
-        let mut monitor = Monitor::BLANK;
-        self.library.open(&mut monitor, users, roles, policy, user_roles, &mut 0);
-        let mut kept = self.follow(label, &monitor, &grown);
-        for (place, word) in events.iter().enumerate() {
+        let mut monitor = opened(self.library, case);
+        let numbers = numbers(case);
+        let mut kept = self.follow(label, &monitor, &grown, &numbers);
+        for (place, word) in case.events.iter().enumerate() {
             let label = format!("{label}, event {place} of (hex) {case:x?}");
             let code = self.library.event(&mut monitor, *word, Lent::new(WORDS).words());
             grown.step(*word);
-            let mask = self.follow(&label, &monitor, &grown);
+            let masks = self.follow(&label, &monitor, &grown, &numbers);
             if code == 0 {
-                kept = mask;
+                kept.clone_from(&masks);
             }
-            self.call.group.check(kept == mask, || {
-                format!("{label}\n  kept mask {kept:04x}, but {mask:04x} after {code}")
+            self.call.group.check(kept == masks, || {
+                format!("{label}\n  kept masks {kept:04x?}, but {masks:04x?} after {code}")
             });
         }
     }
 
-    /// Asks the product along a run, beside an instance of the reference that keeps no bits but the
-    /// roles held at the time.
-    fn follow(&mut self, label: &str, monitor: &Monitor, grown: &Grown<Taken>) -> u16 {
-        let mut workspace = Lent::new(WORDS);
-        let answered = grown.enabled(workspace.words());
-        self.ask(label, monitor, answered, &workspace, WORDS)
+    /// Asks the product along a run for each of some actions, beside an instance of the reference that
+    /// keeps no bits but the roles held at the time.
+    fn follow(
+        &mut self,
+        label: &str,
+        monitor: &Monitor,
+        grown: &Grown<Taken>,
+        numbers: &[u8],
+    ) -> Vec<u16> {
+        let mut masks = Vec::new();
+        for action in numbers {
+            self.secure.count(grown, *action);
+            let mut workspace = Lent::new(WORDS);
+            let answered = grown.enabled(*action, workspace.words());
+            masks.push(self.ask(label, monitor, *action, answered, (&workspace, WORDS)));
+        }
+        masks
     }
+}
+
+/// The actions to ask for along a run: the first ones of the workflow, and one above 63; without a
+/// workflow, any one.
+fn numbers(case: &Case) -> Vec<u8> {
+    let (_, workflow) = case.given();
+    let arrows = workflow.get(4..).unwrap_or_default().chunks_exact(3);
+    let mut numbers: Vec<u8> = arrows.map(|arrow| arrow[1]).collect();
+    numbers.sort_unstable();
+    numbers.dedup();
+    numbers.truncate(3);
+    numbers.push(64 + case.events.len() as u8 % 192);
+    numbers
 }

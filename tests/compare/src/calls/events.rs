@@ -7,15 +7,17 @@ use reference::casefile::{read_case, Case};
 use reference::generate::calls::{event_edges, event_input, EventInput};
 use reference::generate::instances::flipped;
 use reference::generate::{cases, edges, Random};
-use reference::monitor::{Monitor as Grown, Taken};
+use reference::monitor::Taken;
 use reference::workspace::WORDS;
 
 use super::left::Left;
-use super::{byte, Call, RUN_EVERY};
+use super::{byte, opened, Call, RUN_EVERY};
 use crate::leavers::Leavers;
 use crate::lent::Lent;
 use crate::library::laid_out;
+use crate::refusals::Instances;
 use crate::report::Seen;
+use crate::secure;
 
 /// Both calls, with the library that is asked.
 struct Events<'a> {
@@ -23,20 +25,23 @@ struct Events<'a> {
     event: Call,
     status: Call,
     leavers: Leavers,
+    secure: secure::Events,
+    malformed: Instances,
 }
 
 /// Compares on all edges, on so many random instances, on as many with a bit flipped, and along
 /// runs.
-pub fn compare(library: &Calls, seed: u64, count: usize) -> ([Call; 2], Seen) {
-    let event = Call::new("event", &[0, 7, 8, 9, 10, 11, 12, 15]);
+pub fn compare(library: &Calls, seed: u64, count: usize) -> ([Call; 2], [Seen; 3]) {
+    let event = Call::new("event", &[0, 7, 8, 9, 10, 11, 12, 15, 16, 17]);
     let status = Call::new("status", &[12, 15, b'c', b'd', b'o']);
     let leavers = Leavers::of_events("event", true);
-    let mut events = Events { library, event, status, leavers };
+    let (secure, malformed) = (secure::Events::new("event", true), Instances::new("event"));
+    let mut events = Events { library, event, status, leavers, secure, malformed };
     let mut random = Random::new(seed);
     for (name, input) in event_edges(&mut random) {
         events.check(&name, &input);
     }
-    for (name, case) in edges::leavers() {
+    for (name, case) in edges::leavers().into_iter().chain(edges::secure::runs()) {
         events.run(&name, &case);
     }
     for turn in 0..count {
@@ -52,12 +57,14 @@ pub fn compare(library: &Calls, seed: u64, count: usize) -> ([Call; 2], Seen) {
             events.run(&format!("run {turn} of seed {seed}"), &case);
         }
     }
-    ([events.event, events.status], events.leavers.seen())
+    let kinds = [events.leavers.seen(), events.secure.seen(), events.malformed.seen()];
+    ([events.event, events.status], kinds)
 }
 
 impl Events<'_> {
     /// One event on an instance, and its status.
     fn check(&mut self, label: &str, input: &EventInput) {
+        self.malformed.count(&input.instance);
         let mut raw = input.instance;
         let mut workspace = Lent::new(input.workspace);
         let code = raw.event(input.word, workspace.words());
@@ -106,16 +113,13 @@ impl Events<'_> {
     /// A whole run from the opening, beside an instance of the reference that keeps no bits but the
     /// roles held at the time.
     fn run(&mut self, label: &str, case: &Case) {
-        let Case { users, roles, policy, user_roles, events } = case;
-        let (users, roles) = (*users, *roles);
-        let opened = Grown::<Taken>::open(users.into(), roles.into(), policy, user_roles);
-        let Ok(mut grown) = opened else {
+        let Ok(mut grown) = case.open::<Taken>() else {
             return;
         };
         self.leavers.count_events(case);
-        let mut monitor = Monitor::BLANK;
-        self.library.open(&mut monitor, users, roles, policy, user_roles, &mut 0);
-        for (place, word) in events.iter().enumerate() {
+        self.secure.count(case);
+        let mut monitor = opened(self.library, case);
+        for (place, word) in case.events.iter().enumerate() {
             let label = format!("{label}, event {place} of (hex) {case:x?}");
             let mut workspace = Lent::new(WORDS);
             let answer = grown.event(*word, workspace.words()) as u8;

@@ -8,7 +8,7 @@ use super::instances::{self, NamedInstance};
 use super::terms::{self, Style};
 use super::Random;
 use crate::casefile::{read_case, Case};
-use crate::examples::{action, grant, CLOSE, POLICY_F};
+use crate::examples::{action, grant, numbered, CLOSE, POLICY_F};
 use crate::policy::Term;
 use crate::raw::RawInstance;
 
@@ -208,7 +208,12 @@ pub struct EventInput {
 pub fn event_input(random: &mut Random) -> EventInput {
     let (words, actions) = random.pick(&[(5, 3), (9, 4), (13, 5), (31, 4), (7, 7), (3, 12)]);
     let instance = instances::well_formed(random, words, actions);
-    let word = event(random, instance.users, instance.roles);
+    let word = if random.percent(50) {
+        let number = instances::number(random, &instance);
+        numbered(random.below(instance.users) as u32, number)
+    } else {
+        event(random, instance.users, instance.roles)
+    };
     EventInput { instance, word, workspace: workspace_length(random) }
 }
 
@@ -247,6 +252,8 @@ fn full_instances(random: &mut Random) -> Vec<NamedInstance> {
             instance.closed = closed;
             instance.actions[..count].iter_mut().for_each(|action| action.met = 0b1110);
             found.push((format!("{count} actions, closed {closed}"), instance));
+            let ordered = instances::ordered(random, instance);
+            found.push((format!("{count} actions, closed {closed}, a workflow"), ordered));
         }
     }
     found
@@ -257,6 +264,8 @@ fn full_instances(random: &mut Random) -> Vec<NamedInstance> {
 pub struct EnabledInput {
     /// The instance.
     pub instance: RawInstance,
+    /// The action's number.
+    pub action: u8,
     /// The length of the workspace.
     pub workspace: usize,
 }
@@ -275,24 +284,27 @@ pub fn enabled_input(random: &mut Random) -> EnabledInput {
             instances::grown(random, users, &rows, events)
         }
     };
-    EnabledInput { instance, workspace: workspace_length(random) }
+    let action = instances::number(random, &instance);
+    EnabledInput { instance, action, workspace: workspace_length(random) }
 }
 
 /// Who may act on each malformed and each odd raw instance, on full ones with workspaces of every
 /// length, and among one user and sixteen who are alike or all different, with names.
 pub fn enabled_edges(random: &mut Random) -> Vec<(String, EnabledInput)> {
+    let mut found = Vec::new();
+    for (name, instance) in instances::acting_in_turn().into_iter().chain([instances::last_acted()])
+    {
+        found.push((name, EnabledInput { instance, action: 0, workspace: 8192 }));
+    }
     let mut named = instances::malformed(random);
     named.extend(instances::odd_but_well_formed(random));
-    named.extend(instances::acting_in_turn());
-    named.push(instances::last_acted());
-    let mut found = Vec::new();
     for (name, instance) in named {
-        let workspace = workspace_length(random);
-        found.push((name, EnabledInput { instance, workspace }));
+        let (action, workspace) = (random.pick(&[0, 1, 2, 63, 64, 255]), workspace_length(random));
+        found.push((name, EnabledInput { instance, action, workspace }));
     }
     for (name, instance) in full_instances(random) {
         for workspace in WORKSPACE_LENGTHS {
-            let input = EnabledInput { instance, workspace };
+            let input = EnabledInput { instance, action: 0, workspace };
             found.push((format!("{name}, workspace of {workspace}"), input));
         }
     }

@@ -1,13 +1,13 @@
 //! Random cases and damaged case files.
 
 use super::terms::{self, Style};
-use super::{faults, NamedFile, Random};
+use super::{faults, secure, NamedFile, Random};
 use crate::casefile::{write_case, Case};
-use crate::examples::{action, grant, revoke, CLOSE};
+use crate::examples::{action, grant, numbered, revoke, CLOSE};
 use crate::policy::Operator;
 
 /// The kinds of random case files, in turn.
-const KINDS: [&str; 11] = [
+const KINDS: [&str; 15] = [
     "plain",
     "leaning",
     "small",
@@ -19,6 +19,10 @@ const KINDS: [&str; 11] = [
     "misworded",
     "faulty",
     "wide",
+    "secure",
+    "faulty workflow",
+    "secure, damaged",
+    "secure, equal",
 ];
 
 /// A random case file of the kind whose turn it is; its name says the kind.
@@ -41,6 +45,16 @@ pub fn random_file(random: &mut Random, turn: usize) -> NamedFile {
         }
         "misworded" => write_case(&misworded(random)),
         "faulty" => write_case(&faulty(random)),
+        "secure" => write_case(&secure::case(random)),
+        "faulty workflow" => write_case(&secure::faulty_case(random)),
+        "secure, damaged" => {
+            let base = secure::case(random);
+            damaged(random, &write_case(&base))
+        }
+        "secure, equal" => {
+            let base = secure::case(random);
+            write_case(&equal_case(random, &base))
+        }
         _ => write_case(&case(random, 16, 16, 70)),
     };
     (kind.to_string(), bytes)
@@ -75,7 +89,8 @@ pub fn event(random: &mut Random, users: usize, roles: usize) -> u32 {
     let user = random.below(users) as u32;
     let role = random.below(roles) as u32;
     match random.below(100) {
-        0..=64 => action(user) | random.word() & 0xff,
+        0..=30 => numbered(user, random.pick(&secure::NUMBERS)),
+        31..=64 => action(user) | random.word() & 0xff,
         65..=78 => grant(user, role),
         79..=88 => revoke(user, role),
         89..=96 => CLOSE,
@@ -95,7 +110,7 @@ pub fn case(random: &mut Random, most_users: usize, most_roles: usize, lean: usi
     let user_roles = user_roles(random, users, roles);
     let count = random.pick(&[4, 8, 12, 16, 20, 30]);
     let events = (0..random.below(count + 1)).map(|_| event(random, users, roles)).collect();
-    Case { users: users as u8, roles: roles as u8, policy, user_roles, events }
+    Case { users: users as u8, roles: roles as u8, policy, user_roles, events, given: None }
 }
 
 /// A random case whose policy is a long chain of one operator.
@@ -125,7 +140,7 @@ pub fn rich_case(random: &mut Random) -> Case {
         }
     };
     let events = (0..random.between(4, 24)).map(|_| act(random)).collect();
-    Case { users: users as u8, roles: roles as u8, policy, user_roles, events }
+    Case { users: users as u8, roles: roles as u8, policy, user_roles, events, given: None }
 }
 
 /// A random case in which users come and go under a policy with a not in most operands: some lose
@@ -151,7 +166,7 @@ pub fn leavers_case(random: &mut Random) -> Case {
     if random.percent(50) {
         events.push(CLOSE);
     }
-    Case { users: users as u8, roles: roles as u8, policy, user_roles, events }
+    Case { users: users as u8, roles: roles as u8, policy, user_roles, events, given: None }
 }
 
 /// The same case with an equal form of its policy.
@@ -234,7 +249,7 @@ pub fn damaged(random: &mut Random, bytes: &[u8]) -> Vec<u8> {
 
 /// Changes one number of the pairs by a little.
 fn change_pair(random: &mut Random, bytes: &mut [u8]) {
-    let place = 2 * random.below(6);
+    let place = 2 * random.below(10);
     if place + 2 > bytes.len() {
         return;
     }

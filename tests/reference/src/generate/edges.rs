@@ -1,5 +1,7 @@
-//! Case files at the edges of what 01 allows, at least one for every refusal number that a case file
-//! can bring about, and users without a role under a not.
+//! Case files at the edges of what 01 and 02 allow, at least one for every refusal number that a case
+//! file can bring about, and users without a role under a not.
+
+pub mod secure;
 
 use super::{faults, NamedFile};
 use crate::casefile::{join_parts, write_case, Case};
@@ -17,6 +19,7 @@ fn base() -> Case {
         policy: term.words(),
         user_roles: vec![1, 2, 4],
         events: vec![action(0), action(1), action(2), CLOSE],
+        given: None,
     }
 }
 
@@ -387,6 +390,7 @@ pub fn all() -> Vec<NamedFile> {
         wrong_lengths(),
         wrong_pairs(),
         shifted_parts(),
+        secure::files(),
     ] {
         files.extend(more);
     }

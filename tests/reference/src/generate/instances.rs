@@ -1,11 +1,13 @@
 //! Raw instances: well formed, and malformed in each way that number 15 lists.
 
 use super::cases::{event, user_roles};
+use super::secure;
 use super::terms::{self, Style};
 use super::Random;
-use crate::examples::action;
+use crate::examples::{action, numbered};
 use crate::policy::{Operator, Term};
-use crate::raw::{RawAction, RawInstance, CLOSED_MARKS, COUNT_BITS, USER_BITS};
+use crate::raw::{RawAction, RawInstance, CLOSED_MARKS, WIDE_BITS, WORD_BITS};
+use crate::secure::{Given, Secure, Transition};
 
 /// A raw instance with a name that says what is odd about it.
 pub type NamedInstance = (String, RawInstance);
@@ -42,7 +44,21 @@ pub fn well_formed(random: &mut Random, most_words: usize, most_actions: usize) 
     let style = Style { users, roles: random.between(1, most), lean: random.pick(&[30, 60, 90]) };
     let words = random.between(1, most_words);
     let policy = terms::term(random, style, words);
-    with_policy(random, style, &policy, most_actions)
+    let raw = with_policy(random, style, &policy, most_actions);
+    if random.percent(50) {
+        ordered(random, raw)
+    } else {
+        raw
+    }
+}
+
+/// The instance under random permissions and a random workflow, in any of its states.
+pub fn ordered(random: &mut Random, mut raw: RawInstance) -> RawInstance {
+    let Given { permissions, workflow } = secure::given(random, raw.roles);
+    let read = Secure::read(raw.roles, &permissions, &workflow);
+    read.iter().flatten().for_each(|secure| raw.keep_secure(secure));
+    raw.state = random.below(raw.states.into());
+    raw
 }
 
 /// A row of four roles for each of sixteen users, no two the same; the last user holds none.
@@ -67,11 +83,29 @@ pub fn grown(random: &mut Random, users: usize, rows: &[u16], events: usize) -> 
         terms::rich(random, style, operands)
     };
     let mut raw = opened(users, &policy, rows);
+    if random.percent(40) {
+        raw = RawInstance { state: 0, ..ordered(random, raw) };
+    }
     for _ in 0..events {
         let user = random.below(users) as u32;
-        raw.step(if random.percent(80) { action(user) } else { event(random, users, 4) });
+        let number = number(random, &raw);
+        raw.step(if random.percent(80) { numbered(user, number) } else { event(random, users, 4) });
     }
     raw
+}
+
+/// A number for an action: one that some transition has in the present state, or else any of the usual
+/// ones.
+pub fn number(random: &mut Random, raw: &RawInstance) -> u8 {
+    let used = &raw.transitions[..raw.arrows.into()];
+    let leaving: Vec<&Transition> =
+        used.iter().filter(|arrow| usize::from(arrow.state) == raw.state).collect();
+    match random.below(20) {
+        0 => random.pick(&[64, 65, 128, 255]),
+        1..=4 => random.pick(&secure::NUMBERS),
+        _ if leaving.is_empty() => random.pick(&secure::NUMBERS),
+        _ => random.pick(&leaving).action,
+    }
 }
 
 /// Raw instances of one user and of sixteen, who are alike, of four kinds or all different, and who
@@ -108,16 +142,27 @@ pub fn last_acted() -> NamedInstance {
 /// The instance with one bit of one field flipped.
 pub fn flipped(random: &mut Random, instance: RawInstance) -> RawInstance {
     let mut raw = instance;
-    let count = 1 << random.below(COUNT_BITS);
-    match random.below(9) {
-        0 => raw.users ^= count,
-        1 => raw.roles ^= count,
-        2 => raw.length ^= count,
+    let wide = 1 << random.below(WIDE_BITS);
+    match random.below(15) {
+        0 => raw.users ^= wide,
+        1 => raw.roles ^= wide,
+        2 => raw.length ^= 1 << random.below(WORD_BITS),
         3 => raw.count ^= 1 << random.below(8),
         4 => raw.policy[random.below(31)] ^= 1 << random.below(32),
         5 => raw.user_roles[random.below(16)] ^= 1 << random.below(16),
-        6 => raw.actions[random.below(12)].user ^= 1 << random.below(USER_BITS),
+        6 => raw.actions[random.below(12)].user ^= wide,
         7 => raw.actions[random.below(12)].met ^= 1 << random.below(32),
+        8 => raw.permissions[random.below(16)] ^= 1 << random.below(64),
+        9 => raw.states ^= 1 << random.below(8),
+        10 => raw.final_states ^= 1 << random.below(16),
+        11 => raw.arrows ^= 1 << random.below(8),
+        12 => raw.state ^= wide,
+        13 => {
+            let arrow = &mut raw.transitions[random.below(64)];
+            let mut bytes = arrow.bytes();
+            bytes[random.below(3)] ^= 1 << random.below(8);
+            *arrow = Transition::new(bytes);
+        }
         _ if raw.closed == 0 => raw.closed = random.pick(&CLOSED_MARKS),
         _ => raw.closed = 0,
     }
@@ -157,9 +202,11 @@ fn malformed_counts(random: &mut Random) -> Vec<NamedInstance> {
     for length in [0, 32, 255] {
         found.push(with(random, &format!("{length} policy words"), |raw| raw.length = length));
     }
-    for bit in 8..COUNT_BITS {
+    for bit in 8..WIDE_BITS {
         found.push(with(random, &format!("bit {bit} of users"), |raw| raw.users |= 1 << bit));
         found.push(with(random, &format!("bit {bit} of roles"), |raw| raw.roles |= 1 << bit));
+    }
+    for bit in 8..WORD_BITS {
         found.push(with(random, &format!("bit {bit} of words"), |raw| raw.length |= 1 << bit));
     }
     found.push(("blank".to_string(), RawInstance::BLANK));
@@ -214,7 +261,7 @@ fn malformed_terms(random: &mut Random) -> Vec<NamedInstance> {
 /// Users of actions whose low byte is declared.
 fn far_users(random: &mut Random) -> Vec<NamedInstance> {
     let far = |bit: usize| format!("bit {bit} of the user of an action");
-    let bits = 8..USER_BITS;
+    let bits = 8..WIDE_BITS;
     bits.map(|bit| with(random, &far(bit), |raw| raw.actions[0].user |= 1 << bit)).collect()
 }
 
@@ -255,6 +302,91 @@ fn malformed_rest(random: &mut Random) -> Vec<NamedInstance> {
     ]
 }
 
+/// The roomy instance under permissions and a workflow that leave room as well: four states, one of
+/// them final, three transitions.
+fn roomy_ordered(random: &mut Random) -> RawInstance {
+    let mut raw = roomy(random);
+    raw.permissions[..raw.roles].iter_mut().for_each(|row| *row = random.bits() | 1 << 1);
+    let arrows = [[0, 1, 1], [1, 2, 2], [2, 63, 0]].map(Transition::new);
+    raw.transitions[..3].copy_from_slice(&arrows);
+    (raw.states, raw.final_states, raw.arrows, raw.state) = (4, 4, 3, random.below(4));
+    raw
+}
+
+/// The roomy instance under permissions and a workflow, with something altered.
+fn ordered_with(
+    random: &mut Random,
+    name: &str,
+    alter: impl Fn(&mut RawInstance),
+) -> NamedInstance {
+    let mut raw = roomy_ordered(random);
+    alter(&mut raw);
+    (name.to_string(), raw)
+}
+
+/// Workflows that the opening would refuse with 19.
+fn malformed_workflows(random: &mut Random) -> Vec<NamedInstance> {
+    let mut with = |name: &str, alter: &dyn Fn(&mut RawInstance)| ordered_with(random, name, alter);
+    vec![
+        with("17 states", &|raw| raw.states = 17),
+        with("255 states", &|raw| raw.states = 255),
+        with("65 transitions", &|raw| raw.arrows = 65),
+        with("255 transitions", &|raw| raw.arrows = 255),
+        with("a transition too many", &|raw| raw.arrows = 6),
+        with("undeclared final state", &|raw| raw.final_states |= 1 << 4),
+        with("final state 15", &|raw| raw.final_states |= 1 << 15),
+        with("undeclared state of a transition", &|raw| raw.transitions[1].state = 4),
+        with("undeclared next state", &|raw| raw.transitions[2].next = 4),
+        with("next state 255", &|raw| raw.transitions[0].next = 255),
+        with("transition with action 64", &|raw| raw.transitions[2].action = 64),
+        with("transition with action 255", &|raw| raw.transitions[0].action = 255),
+        with("one transition twice", &|raw| raw.transitions[2] = raw.transitions[0]),
+        with("one state and action twice", &|raw| {
+            raw.transitions[1] = Transition { next: 3, ..raw.transitions[0] };
+        }),
+        with("a role too few for the permissions", &|raw| raw.permissions[raw.roles] = 2),
+    ]
+}
+
+/// Present states that the workflow does not have.
+fn malformed_states(random: &mut Random) -> Vec<NamedInstance> {
+    let mut with = |name: &str, alter: &dyn Fn(&mut RawInstance)| ordered_with(random, name, alter);
+    let mut found = vec![
+        with("state 4 of 4", &|raw| raw.state = 4),
+        with("state 5 of 4", &|raw| raw.state = 5),
+        with("state 255", &|raw| raw.state = 255),
+    ];
+    for bit in 2..WIDE_BITS {
+        let name = format!("bit {bit} of the state");
+        found.push(with(&name, &|raw| raw.state |= 1 << bit));
+    }
+    found
+}
+
+/// Unused rows of actions and transitions that are not zero, and parts of permissions and workflow
+/// where neither is given.
+fn malformed_ordered_rest(random: &mut Random) -> Vec<NamedInstance> {
+    vec![
+        ordered_with(random, "last unused row of actions", |raw| raw.permissions[15] = 1 << 63),
+        ordered_with(random, "action in the first unused transition", |raw| {
+            raw.transitions[3].action = 3;
+        }),
+        ordered_with(random, "state in an unused transition", |raw| raw.transitions[40].state = 1),
+        ordered_with(random, "next state in the last transition", |raw| {
+            raw.transitions[63].next = 1
+        }),
+        ordered_with(random, "no state, all else given", |raw| (raw.states, raw.state) = (0, 0)),
+        with(random, "permissions alone", |raw| raw.permissions[0] = 1),
+        with(random, "permission past the roles alone", |raw| raw.permissions[raw.roles] = 1 << 63),
+        with(random, "final state alone", |raw| raw.final_states = 1),
+        with(random, "transition alone", |raw| raw.transitions[0].action = 1),
+        with(random, "last transition alone", |raw| raw.transitions[63].next = 1),
+        with(random, "number of transitions alone", |raw| raw.arrows = 1),
+        with(random, "state 1 alone", |raw| raw.state = 1),
+        with(random, "state of 32 bits alone", |raw| raw.state = 1 << 31),
+    ]
+}
+
 /// Raw instances for each way of being malformed, each with its name; some are closed, since 15
 /// comes before 10.
 pub fn malformed(random: &mut Random) -> Vec<NamedInstance> {
@@ -265,6 +397,9 @@ pub fn malformed(random: &mut Random) -> Vec<NamedInstance> {
         far_users,
         malformed_actions,
         malformed_rest,
+        malformed_workflows,
+        malformed_states,
+        malformed_ordered_rest,
     ];
     kinds.into_iter().flat_map(|kind| kind(random)).collect()
 }
@@ -292,7 +427,16 @@ pub fn odd_but_well_formed(random: &mut Random) -> Vec<NamedInstance> {
     not_and_inner.count = 2;
     not_and_inner.actions[0] = RawAction { user: 1, met: 0b110 };
     not_and_inner.actions[1] = RawAction { user: 1, met: 0b010 };
+    let mut unreachable = roomy_ordered(random);
+    (unreachable.state, unreachable.closed) = (3, 0);
+    let mut ended = RawInstance { closed: 1, ..roomy_ordered(random) };
+    ended.final_states = 0;
+    let mut nothing_given = roomy_ordered(random);
+    nothing_given.permissions = [0; 16];
     vec![
+        ("a state that nothing leads to".to_string(), unreachable),
+        ("closed in no final state".to_string(), ended),
+        ("a workflow, but no permission".to_string(), nothing_given),
         ("closed, but nothing taken".to_string(), closed),
         ("twelve actions that are not possible".to_string(), impossible),
         ("the whole without a side".to_string(), contradicted),

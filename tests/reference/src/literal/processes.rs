@@ -1,4 +1,5 @@
-//! Definition 7: terms as processes, and processes as labelled transitions.
+//! Definition 7: terms as processes, and processes as labelled transitions; and the processes of a
+//! workflow, of RBAC and of a workflow that both secure (sections 3.1, 3.2 and 5.3).
 //!
 //! The damaged rule for both is read as the two sides in parallel, synchronised on every event,
 //! over the same users; apart is a choice over all ways to part the users in two.
@@ -15,6 +16,32 @@ pub enum Synchronised {
     Everything,
     /// On done and on admin events.
     DoneAndAdmin,
+    /// On business events.
+    Business,
+}
+
+impl Synchronised {
+    /// Whether both processes have to engage in an event together.
+    fn holds(self, event: Event) -> bool {
+        match self {
+            Synchronised::Everything => true,
+            Synchronised::DoneAndAdmin => !event.is_business(),
+            Synchronised::Business => event.is_business(),
+        }
+    }
+}
+
+/// A permission-assignment relation: the pairs of a role and an action (Definition 1).
+pub type Permissions = BTreeSet<(usize, u8)>;
+
+/// The labelled transition system of a workflow (section 3.1, Fig. 1b), over all users: edges from a
+/// state by an action to a state, and the states in which it may be done.
+#[derive(Clone, Debug, PartialEq, Eq, PartialOrd, Ord, Hash)]
+pub struct Transitions {
+    /// The edges.
+    pub edges: BTreeSet<(u8, u8, u8)>,
+    /// Where it may be done.
+    pub finals: BTreeSet<u8>,
 }
 
 /// A state of a process.
@@ -46,6 +73,36 @@ pub enum Process {
     Choice(Vec<Process>),
     /// Two processes side by side.
     Parallel(Synchronised, Box<Process>, Box<Process>),
+    /// W: a workflow in a state.
+    Workflow {
+        /// Its transitions.
+        transitions: Transitions,
+        /// The state.
+        state: u8,
+    },
+    /// RBAC(UA, PA): engages in the business events that a role gives and in all admin events, and
+    /// never ends.
+    Rbac {
+        /// The user-assignment relation now.
+        assignment: Assignment,
+        /// The permission-assignment relation.
+        permissions: Permissions,
+    },
+}
+
+/// SSW: W and RBAC synchronised on business events, and that with the process of a term on every event
+/// (section 5.3).
+pub fn secure_workflow(
+    transitions: &Transitions,
+    assignment: &Assignment,
+    permissions: &Permissions,
+    term: Process,
+) -> Process {
+    let workflow = Process::Workflow { transitions: transitions.clone(), state: 0 };
+    let (assignment, permissions) = (assignment.clone(), permissions.clone());
+    let rbac = Process::Rbac { assignment, permissions };
+    let secure = Process::Parallel(Synchronised::Business, Box::new(workflow), Box::new(rbac));
+    Process::Parallel(Synchronised::Everything, Box::new(secure), Box::new(term))
 }
 
 /// How a unit term with either or both at its head is mapped.
@@ -146,6 +203,48 @@ pub fn next(process: &Process, event: Event) -> BTreeSet<Process> {
         Process::Unit { .. } | Process::Plus { .. } => waiting(process, event),
         Process::Choice(choices) => choices.iter().flat_map(|choice| next(choice, event)).collect(),
         Process::Parallel(synchronised, left, right) => beside(*synchronised, left, right, event),
+        Process::Workflow { transitions, state } => workflow_next(transitions, *state, event),
+        Process::Rbac { assignment, permissions } => rbac_next(assignment, permissions, event),
+    }
+}
+
+/// The transitions of W: whoever acts takes an edge, and done ends it in a final state. It has no admin
+/// events.
+fn workflow_next(transitions: &Transitions, state: u8, event: Event) -> BTreeSet<Process> {
+    let Transitions { edges, finals } = transitions;
+    match event {
+        Event::Business { action, .. } => {
+            let leaving = edges.iter().filter(|(from, by, _)| (*from, *by) == (state, action));
+            let to = |to: &u8| Process::Workflow { transitions: transitions.clone(), state: *to };
+            leaving.map(|(_, _, next)| to(next)).collect()
+        }
+        Event::Done if finals.contains(&state) => BTreeSet::from([Process::Stop]),
+        _ => BTreeSet::new(),
+    }
+}
+
+/// The transitions of RBAC. It has no done.
+fn rbac_next(
+    assignment: &Assignment,
+    permissions: &Permissions,
+    event: Event,
+) -> BTreeSet<Process> {
+    let rbac = |assignment: Assignment| {
+        BTreeSet::from([Process::Rbac { assignment, permissions: permissions.clone() }])
+    };
+    match event {
+        Event::Business { user, action } => {
+            let gives = |(holder, role): &(usize, usize)| {
+                *holder == user && permissions.contains(&(*role, action))
+            };
+            if assignment.iter().any(gives) {
+                rbac(assignment.clone())
+            } else {
+                BTreeSet::new()
+            }
+        }
+        Event::Add { .. } | Event::Remove { .. } => rbac(upd(assignment, &[event])),
+        Event::Done => BTreeSet::new(),
     }
 }
 
@@ -198,7 +297,7 @@ fn beside(
         Process::Parallel(synchronised, Box::new(left.clone()), Box::new(right.clone()))
     };
     let (lefts, rights) = (next(left, event), next(right, event));
-    if synchronised == Synchronised::DoneAndAdmin && event.is_business() {
+    if !synchronised.holds(event) {
         let left_moves = lefts.iter().map(|moved| pair(moved, right));
         let right_moves = rights.iter().map(|moved| pair(left, moved));
         return left_moves.chain(right_moves).collect();

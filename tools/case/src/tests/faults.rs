@@ -29,7 +29,7 @@ fn what_is_undeclared() {
 fn what_is_missing() {
     told(&[
         ("users 3\n", "", "line 19: the part `users` is missing"),
-        ("roles 3", "roles", "line 2: `roles` is followed by one number"),
+        ("roles 3", "roles", "line 2: `roles` is followed by one number, or by names"),
         ("role 2, apart", "role, apart", "line 5: a role is missing before `,`"),
         ("plus everyone)", "set)", "line 6: a user is missing before `)`"),
         ("plus everyone)", "word", "line 6: a number is missing at the end of the policy"),
@@ -62,7 +62,7 @@ fn what_is_too_many() {
     told(&[
         ("users 3", "users 17", "line 1: `17` is no number of users from 1 to 16"),
         ("users 3", "users 0", "line 1: `0` is no number of users from 1 to 16"),
-        ("users 3", "users 3 4", "line 1: `users` is followed by one number"),
+        ("users 3", "users 3 4", "line 1: `users` is followed by one number, or by names"),
         ("roles 3", "roles 300", "line 2: `300` is no number of roles from 1 to 16"),
         ("plus everyone)", "everyone, role 1)", "line 6: one side more than the 2 of `together`"),
         ("plus everyone)", "plus everyone))", "line 6: `)` stands behind the end of the policy"),

@@ -15,12 +15,12 @@ const APART: u32 = 0x09000000;
 
 /// A case of two users and two roles with these policy words.
 fn case(words: &[u32]) -> Case {
-    Case { users: 2, roles: 2, policy: words.to_vec(), grants: vec![1, 2], events: vec![] }
+    Case { users: 2, roles: 2, policy: words.to_vec(), grants: vec![1, 2], ..Case::default() }
 }
 
 /// What is printed of a run below its first line, of which the judge's part is given too.
 fn marked(words: &[u32]) -> (String, String) {
-    let report = run::report(&file::write(&case(words)), &[]);
+    let report = run::report(&file::write(&case(words)), None);
     assert!(!report.accepted, "{words:08x?}");
     let (first, rest) = report.text.split_once('\n').expect("a line");
     (first.split("  ").next().unwrap_or_default().to_string(), rest.to_string())

@@ -5,6 +5,7 @@ mod faults;
 mod files;
 mod marks;
 mod mutations;
+mod plans;
 mod policies;
 mod recipes;
 mod runs;

@@ -1,11 +1,12 @@
 //! Damaged texts: each is refused with its line, or makes a case that the library refuses with 4
-//! alone, none of whose events is answered 7.
+//! alone, or with 19 where a part is `none` or `raw`; none of its events is answered 7.
 
+use super::plans::NAMED;
 use super::LISTING_TEXT;
 use crate::{file, monitor, text};
 
 /// What is put into a text.
-const PIECES: [&str; 28] = [
+const PIECES: [&str; 34] = [
     "0",
     "1",
     "2",
@@ -34,6 +35,12 @@ const PIECES: [&str; 28] = [
     "act",
     "close",
     "\u{1b}[2J",
+    "->",
+    "count",
+    "Bert",
+    "none",
+    "raw",
+    "workflow",
 ];
 
 /// The lines of a text, taken apart.
@@ -87,7 +94,10 @@ fn told_or_well_formed(text: &str) {
     };
     let case = file::read(&bytes).expect(text);
     match monitor::open(&case) {
-        Err(refused) => assert_eq!(refused.number, 4, "{text}"),
+        Err(refused) => {
+            let escaped = text.contains("none") || text.contains("raw");
+            assert!(refused.number == 4 || escaped && refused.number == 19, "{text}");
+        }
         Ok(mut opened) => {
             for word in &case.events {
                 let number = opened.event(*word).map_or_else(|refused| refused.number, |()| 0);
@@ -99,14 +109,18 @@ fn told_or_well_formed(text: &str) {
 
 #[test]
 fn every_mistake_is_told_or_harmless() {
-    let texts = mistakes(LISTING_TEXT);
-    assert!(texts.len() > 3000);
-    texts.iter().for_each(|text| told_or_well_formed(text));
+    for text in [LISTING_TEXT, NAMED] {
+        let texts = mistakes(text);
+        assert!(texts.len() > 3000);
+        texts.iter().for_each(|text| told_or_well_formed(text));
+    }
 }
 
 #[test]
 fn cut_texts_are_told_or_harmless() {
-    for end in 0..LISTING_TEXT.len() {
-        told_or_well_formed(&(LISTING_TEXT[..end].to_string() + "\n"));
+    for text in [LISTING_TEXT, NAMED] {
+        for end in 0..text.len() {
+            told_or_well_formed(&(text[..end].to_string() + "\n"));
+        }
     }
 }

@@ -82,7 +82,7 @@ fn means(example: &str, says: fn(Roles, &[usize]) -> bool) {
     let multisets = multisets(ACTIONS);
     for roles in Roles::all() {
         let (users, grants) = (USERS as u8, roles.0.to_vec());
-        let case = Case { users, roles: 3, policy: policy.clone(), grants, events: vec![] };
+        let case = Case { users, roles: 3, policy: policy.clone(), grants, ..Case::default() };
         for multiset in &multisets {
             let mut counts = [0; MOST_USERS];
             multiset.iter().for_each(|user| counts[*user] += 1);

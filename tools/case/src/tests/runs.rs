@@ -5,7 +5,7 @@ use reference::examples::{action, LISTING_L, LISTING_L_OUTPUT};
 use reference::generate::case_files;
 use reference::monitor::{Monitor, Taken};
 
-use crate::{run, text};
+use crate::{file, run, text};
 
 /// What the judge would have printed: of each line what stands before the first two blanks, without
 /// the lines of a refused policy.
@@ -16,7 +16,7 @@ fn judged(text: &str) -> String {
 
 #[test]
 fn listing_l_is_run() {
-    let report = run::report(&LISTING_L, &[]);
+    let report = run::report(&LISTING_L, None);
     let expected = "\
 1 0 o   act 0 1    may act: 0 1     accepted
 2 0 o   act 1 2    may act: 0 1     accepted
@@ -37,7 +37,7 @@ taken 4  may act: nobody
 #[test]
 fn generated_files_are_judged_alike() {
     for (name, bytes) in case_files(11, 1500) {
-        let report = run::report(&bytes, &[]);
+        let report = run::report(&bytes, None);
         let expected = judge(&bytes);
         assert_eq!(judged(&report.text), expected, "{name}");
         assert_eq!(report.accepted, !expected.starts_with("refused"), "{name}");
@@ -80,8 +80,10 @@ fn tried(bytes: &[u8]) -> Option<Vec<String>> {
 fn who_may_act_is_whose_action_would_be_taken() {
     let mut runs = 0;
     for (name, bytes) in case_files(12, 1500) {
-        if let Some(expected) = tried(&bytes) {
-            assert_eq!(told(&run::report(&bytes, &[]).text), expected, "{name}");
+        // with a workflow each action has users of its own: tests/plans.rs
+        let without = file::read(&bytes).is_ok_and(|case| case.secure.is_none());
+        if let Some(expected) = tried(&bytes).filter(|_| without) {
+            assert_eq!(told(&run::report(&bytes, None).text), expected, "{name}");
             runs += 1;
         }
     }
@@ -92,17 +94,17 @@ fn who_may_act_is_whose_action_would_be_taken() {
 fn a_run_without_events_tells_who_may_begin() {
     let text = "users 3\nroles 2\npolicy apart(role 0, role 1)\ngrants\n0: 1\n1:\n2: 0\nevents\n";
     let bytes = text::write(text).expect("it is written");
-    assert_eq!(run::report(&bytes, &[]).text, "taken 0  may act: 0 2\n");
+    assert_eq!(run::report(&bytes, None).text, "taken 0  may act: 0 2\n");
 }
 
 #[test]
 fn refusals_say_what_their_number_says() {
-    let report = run::report(&LISTING_L[..95], &[]);
+    let report = run::report(&LISTING_L[..95], None);
     let expected =
         "refused 14  case file malformed: the events part ends at byte 96 of a file of 95\n";
     assert_eq!(report.text, expected);
     assert!(!report.accepted);
     let no_rows = join_parts(&[0, 0, 0, 1], &[1, 1], &[]);
     let expected = "refused 6  role rows not one a user, or a role not declared\n";
-    assert_eq!(run::report(&no_rows, &[]).text, expected);
+    assert_eq!(run::report(&no_rows, None).text, expected);
 }

@@ -1,164 +1,80 @@
--- A case's parts lie within its bytes and fit the arrays, so that the arrays' parts are the words and rows that the case holds.
-use mathlib.Core.Path.{_≡_, sym, ap, ap₂, _∙_}
+-- The parts behind the events are empty, or lie between the places that the pairs say.
+use mathlib.Core.Path.{_≡_, sym, ap₂, _∙_}
+use mathlib.Core.Bool.{true}
 use mathlib.Core.List.{List}
-use Prim.Native.Nat.{ℕ, _+_, _-_, _/_, _≤_}
+use Prim.Native.Nat.{ℕ, _≤_}
 use native.Mathlib.Omega.{arith}
 use borrow.Author.Needs.{needs}
-use lib.ListN.{length, getD, take}
-use lib.Seq.{length-take-le}
-use Rattle.monitor.specs.Monitors.{given, opening}
-use Rattle.casefile.specs.Cases.{wides, halves, openingOf}
-use Rattle.casefile.proofs.Laying.{Laid, laid}
+use borrow.Author.Tests.{not-true, not-false}
+use lib.ListN.{length}
+use Rattle.casefile.specs.Cases.{offset, hasFive, slice, openingBetween, openingOf}
+use Rattle.casefile.proofs.Laying.{Behind, laid, laid-behind}
 use Rattle.casefile.proofs.cases.open_case.Statement.{statement}
 use Rattle.casefile.proofs.cases.open_case.Tie as tie
 
-layout : (s : tie.Start) → Laid (s .args .bytes .now)
-layout s = laid (s .args .bytes .now) (s .pre)
+has-five-requires : tie.Need-has-five-requires
+has-five-requires c κs = let s = c .before in laid (s .args .bytes .now) (s .pre) .long
 
--- ── the stages ──
-abbrev begun : tie.After-length-of → tie.Start
-begun l = l .before .before
-
--- the words are filled in
-abbrev counted : tie.After-fill-words → tie.After-length-of
-counted w = w .before .before .before
-
-abbrev start : tie.After-fill-words → tie.Start
-start w = begun (counted w)
-
--- the rows are filled in
-abbrev filled : tie.After-offset-of2 → tie.After-fill-words
-filled o = o .before .before
-
-abbrev placed : tie.After-fill-rows → tie.After-offset-of2
-placed r = r .before .before .before
-
-abbrev first : tie.After-fill-rows → tie.After-fill-words
-first r = filled (placed r)
-
--- the counts are read, the arrays' parts lent
-abbrev read : tie.After-shared-slice-known2 → tie.After-fill-rows
-read c = c .before .before
-
-abbrev lent : tie.After-words3 → tie.After-fill-rows
-lent c = read (c .before .before)
-
--- ── the calls ──
-length-of-requires : tie.Need-length-of-requires
-length-of-requires c κs = let l = layout (c .before) in omega arith
-
-offset-of-requires : tie.Need-offset-of-requires
-offset-of-requires c κs = let l = layout (begun c) in omega arith
-
-slice-aggregate-fill-words : tie.Need-slice-aggregate-fill-words
-slice-aggregate-fill-words c = search needs
-
-fill-words-requires : tie.Need-fill-words-requires
-fill-words-requires c κs = let l = layout (begun (c .before .before)) in omega arith
-
-offset-of-requires-2 : tie.Need-offset-of-requires-2
-offset-of-requires-2 c κs = let l = layout (start (c .before)) in omega arith
-
-length-of-requires-2 : tie.Need-length-of-requires-2
-length-of-requires-2 c κs = let l = layout (start (filled c)) in omega arith
-
-sub-users : tie.Need-sub-users
-sub-users c = let l = layout (start (filled (c .before))) in omega arith
-
-add-fill-rows : tie.Need-add-fill-rows
-add-fill-rows c = omega arith
-
-slice-aggregate-fill-rows : tie.Need-slice-aggregate-fill-rows
-slice-aggregate-fill-rows c = search needs
-
-fill-rows-requires : tie.Need-fill-rows-requires
-fill-rows-requires c κs = let l = layout (start (filled (c .before .before))) in omega arith
-
-shared-slice-read-open : tie.Need-shared-slice-read-open
-shared-slice-read-open c = let l = layout (start (first (read c))) in omega arith
-
-add-open : tie.Need-add-open
-add-open c = let l = layout (start (first (read c))) in omega arith
-
-shared-slice-read-open-2 : tie.Need-shared-slice-read-open-2
-shared-slice-read-open-2 c = let l = layout (start (first (read (c .before)))) in omega arith
-
--- the words, of which there are enough
-module _ (c : tie.After-fill-words) where
-  abbrev count : ℕ
-  count = counted c .length-of .result / 4
-
-  abbrev words : List ℕ
-  words = c .fill-words .last .1 .1 .1 .0
-
-  words-enough : count ≤ length words
-  words-enough = let l = layout (start c) in omega (arith, c .fill-words .kept .1 .1 .1 .0)
-
-  words-are : take count words ≡ openingOf (start c .args .bytes .now) .words
-  words-are =
-      let b : List ℕ = start c .args .bytes .now in
-      c .fill-words .ensures ∙ ap₂ (λ (k n : ℕ). wides b k (n / 4)) (c .before .before .offset-of .ensures .0) (counted c .length-of .ensures .0)
-
--- the rows, of which there are enough
-module _ (c : tie.After-fill-rows) where
-  abbrev users : ℕ
-  users = (c .before .before .length-of2 .result - 2) / 2
-
-  abbrev rows : List ℕ
-  rows = c .fill-rows .last .1 .1 .1 .0
-
-  rows-enough : users ≤ length rows
-  rows-enough = let l = layout (start (first c)) in omega (arith, c .fill-rows .kept .1 .1 .1 .0)
-
-  rows-are : take users rows ≡ openingOf (start (first c) .args .bytes .now) .rows
-  rows-are =
-      let b : List ℕ = start (first c) .args .bytes .now in
-      c .fill-rows .ensures ∙ ap₂ (λ (k n : ℕ). halves b (k + 2) ((n - 2) / 2)) (placed c .offset-of2 .ensures .0) (c .before .before .length-of2 .ensures .0)
-
-array-share-prefix-words : tie.Need-array-share-prefix-words
-array-share-prefix-words c = words-enough (first (read (c .before)))
-
-slice-aggregate-open : tie.Need-slice-aggregate-open
-slice-aggregate-open c = let f = first (lent c) in sym (length-take-le (count f) (words f) (words-enough f))
-
-array-share-prefix-rows : tie.Need-array-share-prefix-rows
-array-share-prefix-rows c = rows-enough (lent c)
-
-slice-aggregate-open-2 : tie.Need-slice-aggregate-open-2
-slice-aggregate-open-2 c = let f = lent (c .before) in sym (length-take-le (users f) (rows f) (rows-enough f))
-
-open-requires : tie.Need-open-requires
-open-requires c κs = search needs
+open-between-requires : tie.Need-open-between-requires
+open-between-requires c κs = search needs
 
 returns : tie.Need-returns
 returns c =
-    let r = lent (c .before .before) in
-    let w = first r in
-    let b : List ℕ = start w .args .bytes .now in
-    c .«open» .ensures
-    ∙ ap (λ (k : ℕ). opening (given (getD b k 0) (getD b (k + 1) 0) (take (count w) (words w)) (take (users r) (rows r)))) (placed r .offset-of2 .ensures .0)
-    ∙ ap₂ (λ (p g : List ℕ). opening (given (openingOf b .users) (openingOf b .roles) p g)) (words-are w) (rows-are r)
+    let t = c .before in
+    let p = t .before .has-five in
+    rw (sym (p .ensures) ∙ not-true (p .result) (t .if1 .taken)) (c .open-between .ensures)
+
+-- five pairs
+module _ (c : tie.Else1) where
+  abbrev start : tie.Start
+  start = c .before .before .before
+
+  abbrev bytes : List ℕ
+  bytes = start .args .bytes .now
+
+  five : hasFive bytes ≡ true
+  five = let p = c .before .has-five in sym (p .ensures) ∙ not-false (p .result) (c .if1 .left)
+
+  room : 20 ≤ length bytes
+  room = laid-behind bytes (start .pre) five .0
+
+  layout : Behind bytes
+  layout = laid-behind bytes (start .pre) five .1
+
+offset-of-requires : tie.Need-offset-of-requires
+offset-of-requires c κs = let r = room c in omega arith
+
+offset-of-requires-2 : tie.Need-offset-of-requires-2
+offset-of-requires-2 c κs = let r = room (c .before) in omega arith
+
+open-between-requires-2 : tie.Need-open-between-requires-2
+open-between-requires-2 c κs =
+    let l = layout (c .before .before) in
+    (start (c .before .before) .pre, omega arith, omega arith, omega arith)
+
+-- the workflow begins where the permissions end, and ends the file
+opening-is : (b : List ℕ) (m n : ℕ) → hasFive b ≡ true → Behind b → m ≡ offset b 3 → n ≡ offset b 4
+    → openingBetween b (slice b m n) (slice b n (length b)) ≡ openingOf b
+opening-is b m n f l from to =
+    rw f
+    (ap₂ (λ (i j : ℕ). openingBetween b (slice b i j) (slice b j (length b))) from to
+    ∙ ap₂ (λ (i j : ℕ). openingBetween b (slice b (offset b 3) i) (slice b (offset b 4) j)) (l .workflow) (l .ends))
+
+returns-2 : tie.Need-returns-2
+returns-2 c =
+    let w = c .before in
+    let p = w .before in
+    let e = p .before in
+    rw (opening-is (bytes e) (p .offset-of .result) (w .offset-of2 .result) (five e) (layout e) (p .offset-of .ensures .0) (w .offset-of2 .ensures .0)) at (c .open-between2 .ensures)
 
 pub open-case-spec : {M : Type 1} → statement M
 open-case-spec =
     tie.close
     (tie.spec
-    length-of-requires
+    has-five-requires
+    open-between-requires
+    returns
     offset-of-requires
-    slice-aggregate-fill-words
-    fill-words-requires
     offset-of-requires-2
-    length-of-requires-2
-    sub-users
-    add-fill-rows
-    slice-aggregate-fill-rows
-    fill-rows-requires
-    shared-slice-read-open
-    add-open
-    shared-slice-read-open-2
-    array-share-prefix-words
-    slice-aggregate-open
-    array-share-prefix-rows
-    slice-aggregate-open-2
-    open-requires
-    returns)
+    open-between-requires-2
+    returns-2)

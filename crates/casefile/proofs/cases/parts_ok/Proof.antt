@@ -1,100 +1,114 @@
 -- Each return follows the definition's cascade: the tests so far passed, and the last one failed.
-use mathlib.Core.Path.{_≡_, ap}
+use mathlib.Core.Path.{_≡_, sym, _∙_}
 use mathlib.Core.Bool.{true}
 use mathlib.Core.List.{List}
-use Prim.Native.Nat.{ℕ, _+_}
+use Prim.Native.Nat.{ℕ, _≤_}
 use native.Mathlib.Omega.{arith}
 use borrow.Author.Needs.{needs}
-use borrow.Author.Tests.{eq-eqb, ne-eqb}
-use lib.Dec.{eqb}
+use borrow.Author.Tests.{not-true, not-false}
 use lib.ListN.{length}
-use Rattle.casefile.specs.Cases.{offset, partLength}
+use Rattle.casefile.specs.Cases.{isJoined, hasFive}
+use Rattle.casefile.proofs.Laying.{room-for-five}
 use Rattle.casefile.proofs.cases.parts_ok.Statement.{statement}
 use Rattle.casefile.proofs.cases.parts_ok.Tie as tie
 
-offset-of-requires : tie.Need-offset-of-requires
-offset-of-requires c κs = search needs
+is-joined-requires : tie.Need-is-joined-requires
+is-joined-requires c κs = search needs
 
 returns : tie.Need-returns
-returns c =
-    let b : List ℕ = c .before .before .before .args .bytes .now in
-    rw (ne-eqb (offset b 0) 12 (λ e. omega arith))
+returns c = let p = c .before .is-joined in rw (sym (p .ensures) ∙ not-true (p .result) (c .if1 .taken))
 
-offset-of-requires-2 : tie.Need-offset-of-requires-2
-offset-of-requires-2 c κs = search needs
+is-joined-requires-2 : tie.Need-is-joined-requires-2
+is-joined-requires-2 c κs = search needs
 
-length-of-requires : tie.Need-length-of-requires
-length-of-requires c κs = search needs
+-- the bytes, where the grants begin as they must
+abbrev bytes : tie.Else1 → List ℕ
+bytes e = e .before .before .before .args .bytes .now
 
-add-if2 : tie.Need-add-if2
-add-if2 c = omega arith
-
--- the tests passed so far
-policy-begins : (c : tie.Else1) → let b = c .before .before .before .args .bytes .now in eqb (offset b 0) 12 ≡ true
-policy-begins c = let b : List ℕ = c .before .before .before .args .bytes .now in eq-eqb (offset b 0) 12 (omega arith)
+first : (c : tie.Else1) → isJoined (bytes c) 0 ≡ true
+first c = let p = c .before .is-joined in sym (p .ensures) ∙ not-false (p .result) (c .if1 .left)
 
 returns-2 : tie.Need-returns-2
 returns-2 c =
-    let e = c .before .before .before in
-    let b : List ℕ = e .before .before .before .args .bytes .now in
-    rw (policy-begins e, ne-eqb (offset b 1) (offset b 0 + partLength b 0) (λ x. omega arith))
+    let p = c .before .is-joined2 in
+    rw (first (c .before .before), sym (p .ensures) ∙ not-true (p .result) (c .if2 .taken))
 
-offset-of-requires-3 : tie.Need-offset-of-requires-3
-offset-of-requires-3 c κs = search needs
+has-five-requires : tie.Need-has-five-requires
+has-five-requires c κs = search needs
 
-length-of-requires-2 : tie.Need-length-of-requires-2
-length-of-requires-2 c κs = search needs
+second : (c : tie.Else2) → isJoined (bytes (c .before .before)) 1 ≡ true
+second c = let p = c .before .is-joined2 in sym (p .ensures) ∙ not-false (p .result) (c .if2 .left)
 
-add-if3 : tie.Need-add-if3
-add-if3 c = omega arith
-
--- the bytes, where the policy begins as it must and the grants do
-abbrev begun : tie.Else1 → List ℕ
-begun e = e .before .before .before .args .bytes .now
-
-abbrev bytes : tie.Else2 → List ℕ
-bytes e = begun (e .before .before .before)
-
-grants-begin : (c : tie.Else2) → let b = bytes c in eqb (offset b 1) (offset b 0 + partLength b 0) ≡ true
-grants-begin c =
-    let b : List ℕ = bytes c in
-    eq-eqb (offset b 1) (offset b 0 + partLength b 0) (omega arith)
+is-last-requires : tie.Need-is-last-requires
+is-last-requires c κs = search needs
 
 returns-3 : tie.Need-returns-3
 returns-3 c =
+    let p = c .before .before .has-five in
     let e = c .before .before .before in
-    let b : List ℕ = bytes e in
-    rw (policy-begins (e .before .before .before), grants-begin e, ne-eqb (offset b 2) (offset b 1 + partLength b 1) (λ x. omega arith))
+    rw (first (e .before .before), second e, sym (p .ensures) ∙ not-true (p .result) (c .before .if3 .taken)) (c .is-last .ensures)
 
-length-of-requires-3 : tie.Need-length-of-requires-3
-length-of-requires-3 c κs = search needs
+-- five pairs, for which there is room
+module _ (c : tie.Else3) where
+  abbrev joined : tie.Else2
+  joined = c .before .before
 
-add-result : tie.Need-add-result
-add-result c = omega arith
+  abbrev case : List ℕ
+  case = bytes (joined .before .before)
+
+  third : hasFive case ≡ true
+  third = let p = c .before .has-five in sym (p .ensures) ∙ not-false (p .result) (c .if3 .left)
+
+  room : 20 ≤ length case
+  room = room-for-five case (joined .before .before .before .before .before .pre .1) third
+
+is-joined-requires-3 : tie.Need-is-joined-requires-3
+is-joined-requires-3 c κs = let r = room c in omega arith
 
 returns-4 : tie.Need-returns-4
 returns-4 c =
-    let o = c .before in
-    let e = o .before .before .before in
-    let b : List ℕ = bytes e in
-    let same : o .before .before .offset-of3 .result + c .length-of3 .result ≡ offset b 2 + partLength b 2 = omega arith in
-    rw (policy-begins (e .before .before .before), grants-begin e, eq-eqb (offset b 2) (offset b 1 + partLength b 1) (omega arith))
-    (ap (λ (n : ℕ). eqb (length b) n) same)
+    let p = c .before .is-joined3 in
+    let e = c .before .before in
+    rw (first (joined e .before .before), second (joined e), third e, sym (p .ensures) ∙ not-true (p .result) (c .if4 .taken))
+
+is-joined-requires-4 : tie.Need-is-joined-requires-4
+is-joined-requires-4 c κs = let r = room (c .before .before) in omega arith
+
+fourth : (c : tie.Else4) → isJoined (case (c .before .before)) 2 ≡ true
+fourth c = let p = c .before .is-joined3 in sym (p .ensures) ∙ not-false (p .result) (c .if4 .left)
+
+returns-5 : tie.Need-returns-5
+returns-5 c =
+    let p = c .before .is-joined4 in
+    let f = c .before .before in
+    let e = f .before .before in
+    rw (first (joined e .before .before), second (joined e), third e, fourth f, sym (p .ensures) ∙ not-true (p .result) (c .if5 .taken))
+
+is-last-requires-2 : tie.Need-is-last-requires-2
+is-last-requires-2 c κs = let r = room (c .before .before .before .before) in omega arith
+
+returns-6 : tie.Need-returns-6
+returns-6 c =
+    let g = c .before in
+    let p = g .before .is-joined4 in
+    let f = g .before .before in
+    let e = f .before .before in
+    rw (first (joined e .before .before), second (joined e), third e, fourth f, sym (p .ensures) ∙ not-false (p .result) (g .if5 .left)) (c .is-last2 .ensures)
 
 pub parts-ok-spec : {M : Type 1} → statement M
 parts-ok-spec =
     tie.close
     (tie.spec
-    offset-of-requires
+    is-joined-requires
     returns
-    offset-of-requires-2
-    length-of-requires
-    add-if2
+    is-joined-requires-2
     returns-2
-    offset-of-requires-3
-    length-of-requires-2
-    add-if3
+    has-five-requires
+    is-last-requires
     returns-3
-    length-of-requires-3
-    add-result
-    returns-4)
+    is-joined-requires-3
+    returns-4
+    is-joined-requires-4
+    returns-5
+    is-last-requires-2
+    returns-6)

@@ -30,6 +30,9 @@ known c = c .before .before
 event-requires : tie.Need-event-requires
 event-requires c κs = search needs
 
+places : (s : tie.Start) → length (s .args .monitor .instance .actions) ≡ 12
+places s = search (needs, length-mapped)
+
 -- what the event call gave
 module _ (c : tie.After-event) where
   abbrev start : tie.Start
@@ -49,12 +52,9 @@ module _ (c : tie.After-event) where
   unfolding outcome
   left = ap (λ (o : Outcome). o .monitor) (c .event .ensures) ∙ ap (λ (n : ℕ). eventMonitor before word n) (start .pre .size)
 
-  places : length (before .instance .actions) ≡ 12
-  places = search (needs, length-mapped)
-
   formed : So (wellFormed (c .event .result .monitor))
   formed = subst (λ (i : Monitor). So (wellFormed i)) (sym (ap (λ (o : Outcome). o .monitor) (c .event .ensures)))
-      (event-keeps-well-formed before word (start .args .workspace .now) places (start .pre .isFormed))
+      (event-keeps-well-formed before word (start .args .workspace .now) (places start) (start .pre .isFormed))
 
   room : length (c .event .last .1 .1 .0) ≡ 8192
   room = c .event .kept .1 .1 .0 ∙ start .pre .size

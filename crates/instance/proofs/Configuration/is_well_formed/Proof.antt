@@ -7,8 +7,8 @@ use borrow.Author.Needs.{needs}
 use lib.ListN.{length}
 use lib.Seq.{length-take-le}
 use Rattle.policy.specs.Reading.{countOk}
-use Rattle.instance.specs.Configurations.{configurationOk}
-use Rattle.instance.proofs.Results.{failed, passed}
+use Rattle.instance.specs.Configurations.{assignment, rowsOk, configurationOk}
+use Rattle.soda.proofs.Results.{failed, passed}
 use Rattle.instance.proofs.Formed.{count-most}
 use Rattle.instance.proofs.Configuration.is_well_formed.Statement.{statement}
 use Rattle.instance.proofs.Configuration.is_well_formed.Tie as tie
@@ -82,12 +82,34 @@ returns-3 c =
 zero-rows-requires : tie.Need-zero-rows-requires
 zero-rows-requires c κs = search needs
 
+-- the tests before that of the unused rows
+module _ (c : tie.After-zero-rows) where
+  abbrev counted : tie.Else2
+  counted = rows-at (c .before .before)
+
+  named : rowsOk (start counted .args .self .users) (start counted .args .self .roles) (assignment (start counted .args .self)) ≡ true
+  named = passed (c .before .before .rows-ok .ensures) (c .before .if3 .left)
+
 returns-4 : tie.Need-returns-4
 unfolding configurationOk
 returns-4 c =
-    let t = c .before in
-    let e = rows-at (t .before) in
-    simp (users-ok (users-counted e), roles-ok e, passed (t .before .rows-ok .ensures) (t .if3 .left)) (c .zero-rows .ensures)
+    let z = c .before in
+    let e = counted z in
+    simp (users-ok (users-counted e), roles-ok e, named z, failed (z .zero-rows .ensures) (c .if4 .taken))
+
+cast-zero-permissions : tie.Need-cast-zero-permissions
+cast-zero-permissions c = search needs
+
+zero-permissions-requires : tie.Need-zero-permissions-requires
+zero-permissions-requires c κs = search needs
+
+returns-5 : tie.Need-returns-5
+unfolding configurationOk
+returns-5 c =
+    let f = c .before .before .before in
+    let z = f .before in
+    let e = counted z in
+    simp (users-ok (users-counted e), roles-ok e, named z, passed (z .zero-rows .ensures) (f .if4 .left)) (c .zero-permissions .ensures)
 
 pub is-well-formed-spec : {M : Type 1} → statement M
 is-well-formed-spec =
@@ -103,4 +125,7 @@ is-well-formed-spec =
     rows-ok-requires
     returns-3
     zero-rows-requires
-    returns-4)
+    returns-4
+    cast-zero-permissions
+    zero-permissions-requires
+    returns-5)

@@ -7,7 +7,7 @@ use borrow.Author.Needs.{needs}
 use Rattle.policy.specs.Reading.{countOk}
 use Rattle.policy.proofs.Scanning.{counts-most}
 use Rattle.instance.specs.Configurations.{givenConfiguration}
-use Rattle.instance.proofs.Results.{failed, passed}
+use Rattle.soda.proofs.Results.{failed, passed}
 use Rattle.instance.proofs.Formed.{one-each}
 use Rattle.instance.proofs.Configuration.open.Statement.{statement}
 use Rattle.instance.proofs.Configuration.open.Tie as tie

@@ -4,7 +4,7 @@ use native.Mathlib.Omega.{arith}
 use borrow.Author.Needs.{needs}
 use Rattle.units.specs.Units.{surveyOf}
 use Rattle.policy.proofs.Scanning.{counts-most}
-use Rattle.instance.proofs.Results.{failed, passed}
+use Rattle.soda.proofs.Results.{failed, passed}
 use Rattle.instance.proofs.Configuration.survey.Statement.{statement}
 use Rattle.instance.proofs.Configuration.survey.Tie as tie
 

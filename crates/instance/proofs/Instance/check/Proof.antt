@@ -15,8 +15,8 @@ use Rattle.units.specs.Units.{metOf}
 use Rattle.instance.specs.declared.Configuration.{Configuration}
 use Rattle.instance.specs.declared.Instance.{Instance}
 use Rattle.instance.specs.Configurations.{held}
-use Rattle.instance.specs.Instances.{policyOf, isTakenOk, instanceOk}
-use Rattle.instance.proofs.Results.{failed, passed}
+use Rattle.instance.specs.Instances.{policyOf, isTakenOk, isTidy, instanceOk}
+use Rattle.soda.proofs.Results.{failed, passed}
 use Rattle.instance.proofs.Checks.{survey-accepted, survey-units, survey-met}
 use Rattle.instance.proofs.Instance.check.Statement.{statement}
 use Rattle.instance.proofs.Instance.check.Tie as tie
@@ -99,7 +99,7 @@ returns-3 c =
     let e = read-at t in
     rw (few (few-at (read e)), accepted e, failed (told t) (c .if3 .taken))
 
--- all tests before the last
+-- all tests before that of what is unused
 abbrev taken-at : tie.After-is-tidy → tie.After-is-taken-ok
 taken-at c = c .before .before
 
@@ -110,12 +110,30 @@ returns-4 c =
     let e = read-at t in
     rw (few (few-at (read e)), accepted e, passed (told t) (c .before .before .if3 .left), failed (c .before .is-tidy .ensures) (c .if4 .taken))
 
+-- all tests before the last
+module _ (c : tie.After-is-placed) where
+  abbrev tidy-at : tie.After-is-tidy
+  tidy-at = c .before .before
+
+  is-taken : isTakenOk (over (read (read-at (taken-at tidy-at)))) (here (read (read-at (taken-at tidy-at)))) ≡ true
+  is-taken = passed (told (taken-at tidy-at)) (tidy-at .before .if3 .left)
+
+  is-unused : isTidy (here (read (read-at (taken-at tidy-at)))) ≡ true
+  is-unused = passed (tidy-at .is-tidy .ensures) (c .before .if4 .left)
+
 returns-5 : tie.Need-returns-5
 unfolding instanceOk
 returns-5 c =
-    let t = taken-at (c .before) in
-    let e = read-at t in
-    rw (few (few-at (read e)), accepted e, passed (told t) (c .before .before .if3 .left), passed (c .before .is-tidy .ensures) (c .if4 .left), meets e)
+    let p = c .before in
+    let e = read-at (taken-at (tidy-at p)) in
+    rw (few (few-at (read e)), accepted e, is-taken p, is-unused p, failed (p .is-placed .ensures) (c .if5 .taken))
+
+returns-6 : tie.Need-returns-6
+unfolding instanceOk
+returns-6 c =
+    let p = c .before in
+    let e = read-at (taken-at (tidy-at p)) in
+    rw (few (few-at (read e)), accepted e, is-taken p, is-unused p, passed (p .is-placed .ensures) (c .if5 .left), meets e)
 
 pub check-spec : {M : Type 1} → statement M
 check-spec =
@@ -131,4 +149,6 @@ check-spec =
     returns-3
     (λ c κs. search needs)
     returns-4
-    returns-5)
+    (λ c κs. search needs)
+    returns-5
+    returns-6)

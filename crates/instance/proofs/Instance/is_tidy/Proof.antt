@@ -1,6 +1,6 @@
 -- Each return rewrites the definition with what the callees said.
 use borrow.Author.Needs.{needs}
-use Rattle.instance.proofs.Results.{failed, passed}
+use Rattle.soda.proofs.Results.{failed, passed}
 use Rattle.instance.proofs.Instance.is_tidy.Statement.{statement}
 use Rattle.instance.proofs.Instance.is_tidy.Tie as tie
 

@@ -2,10 +2,12 @@
 use borrow.Author.Needs.{needs}
 use borrow.Author.Tests.{le-leb, lt-leb}
 use lib.ListN.{length}
+use Rattle.workflow.specs.Workflows.{noWorkflow}
 use Rattle.instance.proofs.Instance.under.Statement.{statement}
 use Rattle.instance.proofs.Instance.under.Tie as tie
 
 returns : tie.Need-returns
+unfolding noWorkflow
 returns c = rw (lt-leb (length (c .before .before .args .words .now)) 31 (c .if1 .taken))
 
 returns-2 : tie.Need-returns-2

@@ -10,7 +10,7 @@ use lib.Seq.{getD-take, length-take-le}
 use Rattle.soda.specs.Lists.{all}
 use Rattle.soda.specs.declared.Action.{Action}
 use Rattle.instance.specs.Instances.{noAction, actionOk}
-use Rattle.instance.proofs.Results.{failed, passed}
+use Rattle.soda.proofs.Results.{failed, passed}
 use Rattle.instance.proofs.Loops.{all-stop, all-more, all-end}
 use Rattle.instance.proofs.instances.actions_ok.Statement.{statement}
 use Rattle.instance.proofs.instances.actions_ok.Tie as tie

@@ -6,7 +6,7 @@ use borrow.Author.Needs.{needs}
 use lib.ListN.{drop}
 use Rattle.soda.specs.Lists.{all}
 use Rattle.instance.specs.Instances.{noAction, isIdle}
-use Rattle.instance.proofs.Results.{failed, passed}
+use Rattle.soda.proofs.Results.{failed, passed}
 use Rattle.instance.proofs.Loops.{all-stop, all-more, all-end}
 use Rattle.instance.proofs.instances.idle_actions.Statement.{statement}
 use Rattle.instance.proofs.instances.idle_actions.Tie as tie

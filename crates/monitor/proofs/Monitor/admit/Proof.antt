@@ -3,7 +3,7 @@ use native.Mathlib.Omega.{arith}
 use borrow.Author.Needs.{needs}
 use borrow.Author.Tests.{lt-ltb, le-ltb}
 use Rattle.monitor.specs.Monitors.{admission}
-use Rattle.instance.proofs.Results.{failed, passed}
+use Rattle.soda.proofs.Results.{failed, passed}
 use Rattle.monitor.proofs.Monitor.admit.Statement.{statement}
 use Rattle.monitor.proofs.Monitor.admit.Tie as tie
 

@@ -4,7 +4,7 @@ use Rattle.soda.proofs.Bools.{and-split}
 use Rattle.instance.specs.Configurations.{configurationOk}
 use Rattle.instance.specs.Instances.{instanceOk}
 use Rattle.monitor.specs.Monitors.{wellFormed}
-use Rattle.instance.proofs.Results.{failed, passed}
+use Rattle.soda.proofs.Results.{failed, passed}
 use Rattle.monitor.proofs.Checks.{not-well-formed, checked}
 use Rattle.monitor.proofs.Monitor.check.Statement.{statement}
 use Rattle.monitor.proofs.Monitor.check.Tie as tie

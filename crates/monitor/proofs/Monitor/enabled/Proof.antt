@@ -1,5 +1,6 @@
 -- 12 and 15, then the mark, then the trials.
 use mathlib.Core.Path.{_≡_, sym, _∙_}
+use Prim.Native.Nat.{_<_}
 use borrow.Author.Needs.{needs}
 use lib.ListN.{length}
 use Rattle.soda.proofs.Bools.{and-split}
@@ -16,6 +17,9 @@ use Rattle.monitor.proofs.Monitor.enabled.Tie as tie
 abbrev start : tie.After-admit → tie.Start
 start c = c .before .before
 
+byte : (s : tie.Start) → s .args .action < 256
+byte s = search needs
+
 abbrev admitted : tie.After-is-closed → tie.Else1
 admitted c = c .before .before
 
@@ -29,7 +33,7 @@ returns : tie.Need-returns
 returns c =
     let k = c .before in
     let a = start k .args in
-    rw (k .admit .ensures .number) (enabled-refused (a .self) (a .workspace .now) (λ z. c .if1 .taken (k .admit .ensures .number ∙ z)))
+    rw (k .admit .ensures .number) (enabled-refused (a .self) (a .workspace .now) (λ z. c .if1 .taken (k .admit .ensures .number ∙ z)) (a .action))
 
 accepted : (e : tie.Else1) → code (admission (start (e .before) .args .self) (length (start (e .before) .args .workspace .now))) ≡ 0
 accepted e = sym (e .before .admit .ensures .number) ∙ e .if1 .left
@@ -37,7 +41,7 @@ accepted e = sym (e .before .admit .ensures .number) ∙ e .if1 .left
 returns-2 : tie.Need-returns-2
 returns-2 c =
     let e = admitted (c .before) in
-    enabled-closed _ _ (accepted e) (sym (c .before .is-closed .ensures) ∙ c .if2 .taken)
+    enabled-closed _ _ (accepted e) _ (sym (c .before .is-closed .ensures) ∙ c .if2 .taken)
 
 try-all-requires : tie.Need-try-all-requires
 try-all-requires c κs =
@@ -52,7 +56,7 @@ returns-3 c =
     let t = tried c in
     let o = looked (t .before) in
     let e = admitted (o .before) in
-    enabled-tried _ _ (accepted e) (sym (o .before .is-closed .ensures) ∙ o .if2 .left) _ _ (t .try-all .ensures)
+    enabled-tried _ _ (accepted e) _ (sym (o .before .is-closed .ensures) ∙ o .if2 .left) (byte (start (e .before))) _ _ (t .try-all .ensures)
 
 pub enabled-spec : {M : Type 1} → statement M
 enabled-spec =

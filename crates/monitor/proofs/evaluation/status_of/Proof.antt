@@ -1,7 +1,7 @@
 -- The mark and what the evaluation says decide the letter.
 use mathlib.Core.Path.{refl}
 use borrow.Author.Needs.{needs}
-use Rattle.instance.proofs.Results.{is}
+use Rattle.soda.proofs.Results.{is}
 use Rattle.monitor.proofs.evaluation.status_of.Statement.{statement}
 use Rattle.monitor.proofs.evaluation.status_of.Tie as tie
 

@@ -1,6 +1,6 @@
 -- The mark decides; behind it the event is malformed or not.
 use borrow.Author.Needs.{needs}
-use Rattle.instance.proofs.Results.{is}
+use Rattle.soda.proofs.Results.{is}
 use Rattle.monitor.proofs.steps.enter.Statement.{statement}
 use Rattle.monitor.proofs.steps.enter.Tie as tie
 

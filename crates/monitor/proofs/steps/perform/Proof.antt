@@ -88,7 +88,7 @@ returns c =
     let a = start (v .before .before) .args in
     let n : ℕ = v .event .given .0 .1 .0 in
     rw (c .answer .ensures)
-    (lifted (a .monitor) (Acts (v .event .given .0 .0) n) (a .workspace .now) refl _ (t .act .ensures n)
+    (lifted (a .monitor) (Acts (v .event .given .0 .0) n) (a .workspace .now) refl _ (t .act .ensures)
     ∙ sym (ap (λ (e : Event). monitorOutcome (a .monitor) e (a .workspace .now)) (v .event .given .1)))
 
 returns-2 : tie.Need-returns-2

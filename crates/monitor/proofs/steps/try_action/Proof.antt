@@ -42,16 +42,16 @@ module _ (c : tie.After-with-action) where
   abbrev start : tie.Start
   start = c .before .before .before
 
-  tried-is : c .with-action .result ≡ withAction (start .args .instance) (own start)
+  tried-is : c .with-action .result ≡ withAction (start .args .instance) (own start) (start .args .state)
   tried-is =
       (rw (lt-ltb (start .args .instance .taken) 12 (start .pre .1)) at (c .with-action .ensures))
-      ∙ ap (withAction (start .args .instance)) (c .before .new .ensures ∙ ap (λ (met : ℕ). record { user = start .args .user; met = met }) (start .pre .3))
+      ∙ ap (λ (x : Action). withAction (start .args .instance) x (start .args .state)) (c .before .new .ensures ∙ ap (λ (met : ℕ). record { user = start .args .user; met = met }) (start .pre .3))
 
 evaluate-requires : tie.Need-evaluate-requires
 evaluate-requires c κs =
     let s = start (c .before) in
     rw (tried-is (c .before))
-    (fillable-more (s .args .configuration) (s .args .instance) (s .args .workspace .now) (over s) (well s) (s .pre .0 .long) (own s) (s .pre .1) (within s) (s .pre .2))
+    (fillable-more (s .args .configuration) (s .args .instance) (s .args .workspace .now) (over s) (well s) (s .pre .0 .long) (own s) (s .args .state) (s .pre .1) (within s) (s .pre .2))
 
 same-length : tie.Need-same-length
 same-length c = search needs
@@ -63,7 +63,7 @@ returns c =
     let s = start t in
     let i = s .args .instance in
     let e = tried-is t in
-    let more = taken-more i (own s) (within s) in
+    let more = taken-more i (own s) (s .args .state) (within s) in
     record {
       is-with = e;
       is-possible = j .evaluate .ensures .is-possible ∙ ap (λ (x : Instance). possible (term x) 0 (takenOf x)) e ∙ ap (possible (term i) 0) more;

@@ -1,0 +1,140 @@
+//! Permissions and workflows, beside the same calls without them.
+
+use crate::candidates::Proved;
+use crate::cases::{self, Case};
+use crate::report::{ratio, time};
+use crate::timing::{self, Timed};
+use crate::{agree, Builds};
+
+/// What stands over the rows.
+const HEAD: &str = "
+Permissions and a workflow of 64 transitions in 16 states, in its last state; the transition that an
+action takes is the last one.
+
+- (a) the call
+- bare: the same call without permissions and workflow
+- (b) search, with the workspace; (b') its answer alone
+- (c) the call tuned by hand
+- (e) where there is an earlier build that has no workflows, its bare call
+
+Refused 16 and 17: an action that no role gives, and one that no transition has; bare, it is judged.
+Few are permitted: the role that gives the action is held by three of 16 users.
+";
+
+/// The goal for an event where so many actions are taken: at most so many times the bare one.
+const GOAL: (usize, f64) = (8, 1.1);
+
+/// A case and the times of its candidates.
+struct Row {
+    name: String,
+    counts: bool,
+    bare: Timed,
+    search: Timed,
+    search_fills: Timed,
+    proved: Timed,
+    tuned: Timed,
+    earlier: Option<Timed>,
+}
+
+impl Row {
+    /// Measures a case.
+    fn new(builds: &Builds, case: &Case) -> Row {
+        let bare = case.bare();
+        let mut all = builds.candidates(case);
+        agree(case, &mut all);
+        // One table a term has no column here, and an earlier build is timed bare.
+        all.drain(..1);
+        all.truncate(4);
+        all.insert(0, Box::new(Proved::new(&bare, &builds.linked)));
+        let earlier = builds.main_candidates(&bare).drain(2..).next();
+        all.extend(earlier);
+        let mut times = timing::compare(&mut all).into_iter();
+        let mut next = || times.next();
+        let mut one = || next().expect("a case has at least five candidates");
+        let [bare, search, search_fills, proved, tuned] = [(); 5].map(|()| one());
+        let counts = case.what == "event: action" && case.taken.len() >= GOAL.0;
+        let (name, earlier) = (case.name().join(" | "), next());
+        Row { name, counts, bare, search, search_fills, proved, tuned, earlier }
+    }
+
+    /// How many bare calls the call takes.
+    fn over_bare(&self) -> f64 {
+        self.proved.over(&self.bare)
+    }
+
+    /// Prints the row.
+    fn print(&self, earlier: bool) {
+        let Row { bare, search, search_fills, proved, tuned, .. } = self;
+        let mut cells = [proved, bare, search_fills, search, tuned].map(time).to_vec();
+        cells.extend([bare, tuned].map(|other| ratio(proved.over(other))));
+        cells.extend([search_fills, search].map(|other| ratio(other.over(proved))));
+        if earlier {
+            let own = self.earlier.as_ref();
+            let none = || "-".to_string();
+            cells.push(own.map_or_else(none, time));
+            cells.push(own.map_or_else(none, |own| ratio(proved.over(own))));
+        }
+        println!("| {} | {} |", self.name, cells.join(" | "));
+    }
+}
+
+/// Prints what stands below the rows.
+fn foot(rows: &[Row]) {
+    let (taken, most) = GOAL;
+    let counted: Vec<&Row> = rows.iter().filter(|row| row.counts).collect();
+    let worst = counted.iter().max_by(|x, y| x.over_bare().total_cmp(&y.over_bare()));
+    println!();
+    if let Some(worst) = worst {
+        let name = worst.name.replace(" | ", ", ");
+        println!(
+            "Largest a/bare of an action with {taken} or more taken: {:.2} ({name}).",
+            worst.over_bare()
+        );
+    }
+    let above = counted.iter().filter(|row| row.over_bare() > most).count();
+    println!("Rows of these above {most}: {above} of {}.", counted.len());
+    let noise = rows.iter().map(|row| row.proved.noise()).fold(1.0, f64::max);
+    println!("Noise: the middle turn of (a) took up to {noise:.2} times its best one.");
+}
+
+/// Prints the table.
+pub fn print(builds: &Builds) {
+    println!("{HEAD}");
+    let earlier = builds.earlier.is_some();
+    let (more, lines) = if earlier { (" (e) | a/e |", "---|---|") } else { ("", "") };
+    let times = "(a) | bare | (b) | (b') | (c) | a/bare | a/c | b/a | b'/a |";
+    println!("| call | policy | words | actions | users | {times}{more}");
+    println!("|{}{lines}", "---|".repeat(14));
+    let mut rows = Vec::new();
+    for case in cases::ordered() {
+        let row = Row::new(builds, &case);
+        row.print(earlier);
+        rows.push(row);
+    }
+    foot(&rows);
+}
+
+#[cfg(test)]
+mod tests {
+    use super::*;
+    use crate::candidates::{Candidate, Searched};
+    use crate::cases::Job;
+
+    #[test]
+    fn rows_are_answered_as_their_names_say() {
+        for case in cases::ordered() {
+            let mut searched = Searched::new(&case, true);
+            let number = searched.run();
+            let few = searched.users().count_ones();
+            let fits = match (&case.what[..], &case.job) {
+                ("event: refused 16", _) => number == 16,
+                ("event: refused 17", _) => number == 17,
+                ("enabled: few are permitted", Job::Enabled(_)) => number == 0 && few <= 4,
+                ("enabled: nobody is permitted", _) => number == 0 && few == 0,
+                ("event: action", _) => number == 0 || number == 9,
+                _ => number == 0,
+            };
+            assert!(fits, "{}: {number}, {few} users", case.name().join(", "));
+        }
+    }
+}
