@@ -147,8 +147,8 @@ CloseIsMultiset =
     → (eventCode (left r) w n ≡ ACCEPTED)
     ↔ (SatM (r .start .rows) (users (traceOf (history r))) (policy (r .start)) × So (mayEnd (r .start) (traceOf (history r))))
 
--- The status does not look at the workflow: it is `d` exactly when a close has been accepted; else it is `c` exactly when the run satisfies the policy under the trace
--- rules, and `o` exactly when it does not.
+-- The status does not look at the workflow: it is `d` exactly when a close has been accepted; else it is `c` exactly when the run satisfies
+-- the policy under the trace rules, and `o` exactly when it does not.
 abbrev pub StatusIsTrace : Type 0
 StatusIsTrace =
     (r : Run) (n : ℕ) → 8192 ≤ n

@@ -21,8 +21,8 @@ kept a answer (s ∷ l) n = kept a (cond (eqb (s .code) 0) (enabledIn (s .left) 
 abbrev pub AskIsCall : Type 0
 AskIsCall = (m : Monitor) (a : ℕ) (before : List ℕ) → enabledOf m a before .answer ≡ enabledIn m (length before) a
 
--- Whatever the action's number, the words and the workspaces of the event calls, a program that asks at the start and then so, each time with a workspace that
--- is long enough, always has what a call would answer now.
+-- Whatever the action's number, the words and the workspaces of the event calls, a program that asks at the start and then so, each time
+-- with a workspace that is long enough, always has what a call would answer now.
 abbrev pub KeptIsNow : Type 0
 KeptIsNow =
     (m : Monitor) (a : ℕ) (words : List ℕ) (n asks : Lengths) (now : ℕ) → Enough asks → 8192 ≤ now

@@ -4,11 +4,11 @@ use mathlib.Core.Bool.{So}
 use mathlib.Core.List.{List, [], _∷_, _++_}
 use Prim.Native.Nat.{ℕ, _<_}
 use lib.ListN.{length}
+use Rattle.soda.specs.Workflows.{isSomewhere}
 use Rattle.soda.specs.declared.Action.{Action}
+use Rattle.instance.specs.declared.Configuration.{Configuration}
 use Rattle.instance.specs.declared.Instance.{Instance}
 use Rattle.instance.specs.Configurations.{rowsOk}
-use Rattle.soda.specs.Workflows.{isSomewhere}
-use Rattle.instance.specs.declared.Configuration.{Configuration}
 use Rattle.instance.specs.Instances.{takenOf, isPlaced, withAction}
 use Rattle.instance.specs.Steps.{leadsTo, stateOf}
 

@@ -1,4 +1,5 @@
--- Laws of the first element that fails a test, of the part of a list from a place on, of a range of numbers, of a list copied into an array, and of the length of a list.
+-- Laws of the first element that fails a test, of the part of a list from a place on, of a range of numbers, of a list copied into an array,
+-- and of the length of a list.
 use mathlib.Core.Path.{_≡_, refl, sym, _∙_, ap, subst}
 use mathlib.Core.Logic.{inl, inr}
 use mathlib.Core.Bool.{Bool, true, false, So, cond}
