@@ -1,14 +1,12 @@
--- Who may act: what an action's word is read as, what the trials give, and what follows for the mask.
+-- Who may act: what an action's word is read as, and what the trials give for the mask.
 use mathlib.Core.Path.{_≡_, refl, sym, _∙_, ap, ap₂, subst}
 use mathlib.Core.Logic.{_≢_, _⊎_, inl, inr}
-use mathlib.Core.Bool.{Bool, true, false, So, not, _&&_, _||_, cond, and-true, true≢false}
-use mathlib.Core.List.{List, [], _∷_, _++_, map}
+use mathlib.Core.Bool.{Bool, true, false, So, not, _&&_, _||_, cond, true≢false}
+use mathlib.Core.List.{List, [], map}
 use Prim.Native.Nat.{ℕ, zero, suc, _-_, _/_, _%_, _^_, _≤_, _<_}
 use native.Mathlib.Omega.{arith}
-use lib.Bits.{bitAnd, and-zero-l}
 use lib.Dec.{leb, ltb, eqb, eqb·suc-zero}
-use lib.ListN.{length, getD, take, length-map, List·getD-eq-default}
-use lib.Seq.{getD-take, length-take-le}
+use lib.ListN.{length, length-map, List·getD-eq-default}
 use borrow.Author.Tests.{le-leb, leb-true, leb-false, lt-leb, lt-ltb, le-ltb, ltb-false, ne-eqb}
 use Rattle.soda.specs.Bits.{bit, number}
 use Rattle.soda.specs.Lists.{range}
@@ -19,18 +17,15 @@ use Rattle.soda.proofs.Bits.{bit-number}
 use Rattle.soda.proofs.Lists.{range-length, map-below, map-same}
 use Rattle.policy.specs.Codes.{FULL, NOT-POSSIBLE, CLOSED, NOT-AUTHORIZED, NO-TRANSITION}
 use Rattle.policy.specs.Refusals.{code}
-use Rattle.units.specs.Units.{metOf, metEach}
-use Rattle.units.proofs.Units.{each-is-met}
-use Rattle.workspace.specs.Workspace.{isFilled, filled}
-use Rattle.workspace.specs.Trials.{actionBy, canAct, Trials, trialsOf}
+use Rattle.workspace.specs.Workspace.{filled}
+use Rattle.workspace.specs.Trials.{Trials}
 use Rattle.instance.specs.declared.Configuration.{Configuration}
 use Rattle.instance.specs.declared.Instance.{Instance}
-use Rattle.instance.specs.declared.Candidates.{Candidates}
-use Rattle.instance.specs.Instances.{policyOf, takenOf, term, isClosed, notedFor}
+use Rattle.instance.specs.Instances.{term, isClosed}
 use Rattle.instance.specs.Steps.{isAuthorized, leadsTo}
-use Rattle.instance.specs.Candidates.{behindLast, isCandidate, candidatesOf}
+use Rattle.instance.specs.Candidates.{behindLast, isCandidate}
 use Rattle.instance.proofs.Formed.{users-most}
-use Rattle.instance.proofs.Gathering.{behind-most, before-last, is-last, number-short, behind-short, number-and}
+use Rattle.instance.proofs.Gathering.{number-short}
 use Rattle.monitor.specs.declared.Monitor.{Monitor}
 use Rattle.monitor.specs.declared.Event.{Event}
 use Rattle.monitor.specs.declared.Event.the-variants.{Acts, Malformed}
@@ -42,6 +37,7 @@ use Rattle.monitor.specs.Private.{eachTried, monitorOutcome}
 use Rattle.monitor.proofs.Formed.{formed}
 use Rattle.monitor.proofs.Order.{admits, accepted-has-passed, not-admitted, not-entered, performed}
 use Rattle.monitor.proofs.Effects.{refusal-alters-nothing}
+use Rattle.monitor.proofs.Candidates.{and-false, behind, behind-declared, past, last-is, can-act, triedTo, each-tried}
 
 -- ── the word of an action ──
 module _ (u a : ℕ) (h : u < 256) (k : a < 256) where
@@ -60,160 +56,6 @@ module _ (u a : ℕ) (h : u < 256) (k : a < 256) where
   pub read-action : (users roles : ℕ) → readEvent users roles (actionWord u a) ≡ cond (ltb u users) (Acts u a) Malformed
   unfolding readEvent
   read-action users roles = rw (no-high, its-kind, its-user, its-number)
-
--- ── the trials ──
--- of the first k users: what is noted for a user, as the trials are given it
-module _ (c : Configuration) (i : Instance) (k : ℕ) (few : k ≤ 16) (within : k ≤ length (c .«user_roles»)) (each : List ℕ) (long : k ≤ length each)
-    (is : each ≡ metEach (policyOf i) (take k (c .«user_roles»))) where
-  rows-length : length (take k (c .«user_roles»)) ≡ k
-  rows-length = length-take-le k (c .«user_roles») within
-
-  mets-length : length (take k each) ≡ k
-  mets-length = length-take-le k each long
-
-  noted-by : (u : ℕ) → u < k → actionBy (take k each) u ≡ notedFor c i u
-  noted-by u h = ap (λ n. record { user = u; met = n })
-      (getD-take k each u 0 h ∙ ap (λ l. getD l u 0) is
-      ∙ each-is-met (policyOf i) (take k (c .«user_roles»)) u (omega (arith, rows-length)) (omega (arith, rows-length))
-      ∙ ap (metOf (policyOf i) u) (getD-take k (c .«user_roles») u 0 h))
-
-  can-act-is : canAct (term i) (takenOf i) (take k each) ≡ number (map (λ u. possible (term i) 0 (tried c i u)) (range 0 k))
-  unfolding canAct
-  can-act-is =
-      ap (λ n. number (map (λ u. possible (term i) 0 (takenOf i ++ (actionBy (take k each) u ∷ []))) (range 0 n))) mets-length
-      ∙ ap number (map-same false k (λ u. possible (term i) 0 (takenOf i ++ (actionBy (take k each) u ∷ []))) (λ u. possible (term i) 0 (tried c i u))
-      (λ u h. ap (λ a. possible (term i) 0 (takenOf i ++ (a ∷ []))) (noted-by u h)))
-
-  module _ (before : List ℕ) (fills : So (isFilled (policyOf i) (i .actions) (i .taken) before)) where
-    abbrev none : Trials
-    none = record { mask = 0; workspace = before }
-
-    abbrev tested : Bool
-    tested = ltb (i .taken) 12 && leb 1 k
-
-    abbrev firstTried : Trials
-    firstTried = record { mask = number (map (λ u. possible (term i) 0 (tried c i u)) (range 0 k)); workspace = filled (term i) (tried c i (k - 1)) before }
-
-    trials-are : (t : Trials) → t ≡ trialsOf (policyOf i) (i .actions) (i .taken) (take k each) before → t ≡ cond tested firstTried none
-    unfolding trialsOf
-    trials-are t e = e ∙ ap (λ b. cond b yes none) test ∙ by-test (leb 1 k) somebody (λ f. rw f (neither (ltb (i .taken) 12)))
-      where
-        yes : Trials
-        yes = record {
-          mask = canAct (term i) (takenOf i) (take k each);
-          workspace = filled (term i) (takenOf i ++ (actionBy (take k each) (length (take k each) - 1) ∷ [])) before;
-        }
-
-        test : ((ltb (i .taken) 12 && (leb 1 (length (take k each)) && leb (length (take k each)) 16)) && isFilled (policyOf i) (i .actions) (i .taken) before) ≡ tested
-        test = rw (mets-length, le-leb k 16 few, fills) (and-true (ltb (i .taken) 12 && (leb 1 k && true)) ∙ ap (λ b. ltb (i .taken) 12 && b) (and-true (leb 1 k)))
-
-        last : 1 ≤ k → yes .workspace ≡ filled (term i) (tried c i (k - 1)) before
-        last some = ap (λ n. filled (term i) (takenOf i ++ (actionBy (take k each) (n - 1) ∷ [])) before) mets-length
-            ∙ ap (λ a. filled (term i) (takenOf i ++ (a ∷ [])) before) (noted-by (k - 1) (omega arith))
-
-        somebody : leb 1 k ≡ true → cond tested yes none ≡ cond tested firstTried none
-        somebody h = ap₂ (λ m w. cond tested (record { mask = m; workspace = w }) none) can-act-is (last (leb-true 1 k h))
-
-        neither : (b : Bool) → cond (b && false) yes none ≡ cond (b && false) firstTried none
-        neither true = refl
-        neither false = refl
-
--- ── the candidates ──
-and-false : (b : Bool) → (b && false) ≡ false
-and-false true = refl
-and-false false = refl
-
-module _ (c : Configuration) (i : Instance) (a : ℕ) (few : c .users ≤ 16) where
-  abbrev candidate : ℕ → Bool
-  candidate = isCandidate c i a
-
-  abbrev digits : List Bool
-  digits = map candidate (range 0 16)
-
-  abbrev behind : ℕ
-  behind = behindLast digits
-
-  digits-length : length digits ≡ 16
-  digits-length = length-map (range 0 16) candidate ∙ range-length 0 16
-
-  behind-few : behind ≤ 16
-  behind-few = omega (arith, behind-most digits, digits-length)
-
-  declared-alone : (u : ℕ) → c .users ≤ u → candidate u ≡ false
-  declared-alone u h = rw (le-ltb u (c .users) h) (and-false (isSomewhere (leadsTo i a)))
-
-  -- nobody is one past the last
-  past : (u : ℕ) → behind ≤ u → candidate u ≡ false
-  past u h = by (lt-or-le u 16)
-    where
-      by : (u < 16) ⊎ (16 ≤ u) → candidate u ≡ false
-      by (inl l) = by-test (candidate u) (λ t. absurd (omega (arith, h, before-last digits u (map-below candidate false 16 u l ∙ t)))) (λ f. f)
-      by (inr g) = declared-alone u (omega arith)
-
-  -- the last one is declared
-  last-is : (j : ℕ) → behind ≡ suc j → So (candidate j)
-  last-is j e = sym (map-below candidate false 16 j (omega (arith, e, behind-few))) ∙ is-last digits j e
-
-  behind-declared : behind ≤ c .users
-  behind-declared = by behind refl
-    where
-      by : (k : ℕ) → behind ≡ k → k ≤ c .users
-      by zero e = omega arith
-      by (suc j) e =
-          let h = and-split (isSomewhere (leadsTo i a)) (ltb j (c .users) && isAuthorized c i j a) (last-is j e) .1 in
-          let l = so-lt j (c .users) (and-split (ltb j (c .users)) (isAuthorized c i j a) h .0) in
-          omega arith
-
-  abbrev possible-for : ℕ → Bool
-  possible-for u = possible (term i) 0 (tried c i u)
-
-  abbrev can-act : ℕ → Bool
-  can-act u = candidate u && possible-for u
-
-  -- of the first ones that can act, those who are candidates
-  masked : bitAnd (number (map possible-for (range 0 behind))) (number digits) ≡ number (map can-act (range 0 (c .users)))
-  masked =
-      ap (bitAnd (number (map possible-for (range 0 behind)))) (number-short candidate 0 behind 16 behind-few (λ u l. past u (omega arith)))
-      ∙ number-and possible-for candidate (range 0 behind)
-      ∙ sym (number-short can-act 0 behind (c .users) behind-declared (λ u l. ap (λ b. b && possible-for u) (past u (omega arith))))
-
-  module _ (within : behind ≤ length (c .«user_roles»)) (each : List ℕ) (long : behind ≤ length each) (is : each ≡ metEach (policyOf i) (take behind (c .«user_roles»)))
-      (before : List ℕ) (fills : So (isFilled (policyOf i) (i .actions) (i .taken) before)) where
-    candidates-tried : (t : Trials) → t ≡ trialsOf (policyOf i) (i .actions) (i .taken) (take behind each) before
-        → record { mask = bitAnd (t .mask) (number digits); workspace = t .workspace } ≡ eachTried c i a before
-    unfolding candidatesOf
-    candidates-tried t e = ap among (trials-are c i behind behind-few within each long is before fills t e) ∙ by (tested c i behind behind-few within each long is before fills)
-      where
-        among : Trials → Trials
-        among x = record { mask = bitAnd (x .mask) (number digits); workspace = x .workspace }
-
-        first : Trials
-        first = firstTried c i behind behind-few within each long is before fills
-
-        nobody : Trials
-        nobody = record { mask = 0; workspace = before }
-
-        by : (b : Bool) → among (cond b first nobody)
-            ≡ cond b (record { mask = number (map can-act (range 0 (c .users))); workspace = filled (term i) (tried c i (behind - 1)) before }) nobody
-        by true = ap (λ n. record { mask = n; workspace = filled (term i) (tried c i (behind - 1)) before }) masked
-        by false = ap (λ n. record { mask = n; workspace = before }) (and-zero-l (number digits))
-
-  -- so it is for whatever the candidates were found to be
-  abbrev Tried : Candidates → Type 0
-  Tried r =
-      (within : r .behind ≤ length (c .«user_roles»)) (each : List ℕ) → r .behind ≤ length each → each ≡ metEach (policyOf i) (take (r .behind) (c .«user_roles»))
-      → (before : List ℕ) → So (isFilled (policyOf i) (i .actions) (i .taken) before)
-      → (t : Trials) → t ≡ trialsOf (policyOf i) (i .actions) (i .taken) (take (r .behind) each) before
-      → record { mask = bitAnd (t .mask) (r .users); workspace = t .workspace } ≡ eachTried c i a before
-
-  module _ (r : Candidates) (e : r ≡ candidatesOf c i a) where
-    pub found-few : r .behind ≤ 16
-    unfolding candidatesOf
-    found-few = subst (λ (x : Candidates). x .behind ≤ 16) (sym e) behind-few
-
-    pub found-tried : Tried r
-    unfolding candidatesOf
-    found-tried = subst Tried (sym e) candidates-tried
 
 -- ── an action's number, by its tests ──
 abbrev numbered : Bool → Bool → Bool → Bool → ℕ
@@ -328,13 +170,11 @@ module _ (m : Monitor) (before : List ℕ) (ok : code (admission m (length befor
         ap (λ k. not (eqb k NOT-AUTHORIZED || eqb k NO-TRANSITION)) (own u h)
         ∙ tried-by (isAuthorized c i u a) (isSomewhere (leadsTo i a)) (leb 12 (i .taken)) (possible (term i) 0 (tried c i u)) ∙ sym (declared-is u h)
 
-    behind-is : behindTrials m (length before) a ≡ behind c i a few
+    behind-is : behindTrials m (length before) a ≡ behind c i a
     unfolding behindTrials
-    behind-is =
-        ap behindLast (map-same false (c .users) (getsTrial m (length before) a) (isCandidate c i a) gets-trial)
-        ∙ sym (behind-short (isCandidate c i a) 0 (c .users) 16 few (λ u l. declared-alone c i a few u (omega arith)))
+    behind-is = ap behindLast (map-same false (c .users) (getsTrial m (length before) a) (isCandidate c i a) gets-trial)
 
-    may-act : (u : ℕ) → u < c .users → leb 12 (i .taken) ≡ false → mayAct m (length before) a u ≡ can-act c i a few u
+    may-act : (u : ℕ) → u < c .users → leb 12 (i .taken) ≡ false → mayAct m (length before) a u ≡ can-act c i a u
     may-act u h f =
         ap (λ k. eqb k 0) (own u h ∙ ap (λ x. numbered (isAuthorized c i u a) (isSomewhere (leadsTo i a)) x (possible (term i) 0 (tried c i u))) f)
         ∙ accepted-by (isAuthorized c i u a) (isSomewhere (leadsTo i a)) (possible (term i) 0 (tried c i u))
@@ -345,24 +185,24 @@ module _ (m : Monitor) (before : List ℕ) (ok : code (admission m (length befor
         ap (λ k. eqb k 0) (own u h ∙ ap (λ x. numbered (isAuthorized c i u a) (isSomewhere (leadsTo i a)) x (possible (term i) 0 (tried c i u))) f)
         ∙ full-by (isAuthorized c i u a) (isSomewhere (leadsTo i a)) (possible (term i) 0 (tried c i u))
 
-    mask-is : enabledMask m (length before) a ≡ eachTried c i a before .mask
-    unfolding enabledMask candidatesOf
+    mask-is : enabledMask m (length before) a ≡ triedTo c i a (behind c i a) before .mask
+    unfolding enabledMask
     mask-is = by-test (ltb (i .taken) 12) free (λ f. rw f (no-digit (c .users) (mayAct m (length before) a) (λ u h. may-not u h (le-leb 12 (i .taken) (ltb-false (i .taken) 12 f)))))
       where
-        same : ltb (i .taken) 12 ≡ true → number (map (mayAct m (length before) a) (range 0 (c .users))) ≡ number (map (can-act c i a few) (range 0 (c .users)))
-        same f = ap number (map-same false (c .users) (mayAct m (length before) a) (can-act c i a few) (λ u h. may-act u h (lt-leb 12 (i .taken) (so-lt (i .taken) 12 f))))
+        same : ltb (i .taken) 12 ≡ true → number (map (mayAct m (length before) a) (range 0 (c .users))) ≡ number (map (can-act c i a) (range 0 (c .users)))
+        same f = ap number (map-same false (c .users) (mayAct m (length before) a) (can-act c i a) (λ u h. may-act u h (lt-leb 12 (i .taken) (so-lt (i .taken) 12 f))))
 
-        free : ltb (i .taken) 12 ≡ true → number (map (mayAct m (length before) a) (range 0 (c .users))) ≡ eachTried c i a before .mask
-        free f = by-test (leb 1 (behind c i a few)) (λ s. rw (f, s) (same f))
-            (λ z. rw (f, z) (same f ∙ no-digit (c .users) (can-act c i a few) (λ u h. ap (λ b. b && possible (term i) 0 (tried c i u)) (past c i a few u (omega (arith, leb-false 1 (behind c i a few) z))))))
+        free : ltb (i .taken) 12 ≡ true → number (map (mayAct m (length before) a) (range 0 (c .users))) ≡ triedTo c i a (behind c i a) before .mask
+        free f = by-test (leb 1 (behind c i a)) (λ s. rw (f, s) (same f))
+            (λ z. rw (f, z) (same f ∙ no-digit (c .users) (can-act c i a) (λ u h. ap (λ b. b && possible (term i) 0 (tried c i u)) (past c i a u (omega (arith, leb-false 1 (behind c i a) z))))))
 
     -- the workspace after the last candidate's trial
-    module _ (j : ℕ) (e : behind c i a few ≡ suc j) where
+    module _ (j : ℕ) (e : behind c i a ≡ suc j) where
       is-declared : j < c .users
-      is-declared = omega (arith, behind-declared c i a few, e)
+      is-declared = omega (arith, behind-declared c i a, e)
 
       goes : So (isSomewhere (leadsTo i a) && isAuthorized c i j a)
-      goes = sym (declared-is j is-declared) ∙ last-is c i a few j e
+      goes = sym (declared-is j is-declared) ∙ last-is c i a j e
 
       last-free : leb 12 (i .taken) ≡ false → workspaceAfter c i (Acts j a) (its-code j) before ≡ filled (term i) (tried c i j) before
       last-free f =
@@ -374,17 +214,10 @@ module _ (m : Monitor) (before : List ℕ) (ok : code (admission m (length befor
           let (q, p) = and-split (isSomewhere (leadsTo i a)) (isAuthorized c i j a) goes in
           rw (p, q, f)
 
-    left-is : leftBy m (behindTrials m (length before) a) a before ≡ eachTried c i a before .workspace
-    unfolding candidatesOf
-    left-is = ap (λ k. leftBy m k a before) behind-is ∙ by (behind c i a few) refl
+    left-is : leftBy m (behindTrials m (length before) a) a before ≡ triedTo c i a (behind c i a) before .workspace
+    left-is = ap (λ k. leftBy m k a before) behind-is ∙ by (behind c i a) refl
       where
-        mask : ℕ
-        mask = number (map (can-act c i a few) (range 0 (c .users)))
-
-        tries : ℕ → Trials
-        tries k = cond (ltb (i .taken) 12 && leb 1 k) (record { mask = mask; workspace = filled (term i) (tried c i (k - 1)) before }) (record { mask = 0; workspace = before })
-
-        by : (k : ℕ) → behind c i a few ≡ k → leftBy m k a before ≡ tries k .workspace
+        by : (k : ℕ) → behind c i a ≡ k → leftBy m k a before ≡ triedTo c i a k before .workspace
         by zero e = rw (and-false (ltb (i .taken) 12))
         by (suc j) e =
             let n : suc j - 1 ≡ j = omega arith in
@@ -396,7 +229,9 @@ module _ (m : Monitor) (before : List ℕ) (ok : code (admission m (length befor
             (λ f. rw (eqb·suc-zero j, some, f) (trial ∙ last-full j e (le-leb 12 (i .taken) (ltb-false (i .taken) 12 f))))
 
     pub enabled-tried : (mask : ℕ) (after : List ℕ) → record { mask = mask; workspace = after } ≡ eachTried c i a before → record { answer = Users mask; workspace = after } ≡ enabledOf m a before
-    enabled-tried mask after e = put mask after (ap (λ (t : Trials). t .mask) e ∙ sym mask-is) (ap (λ (t : Trials). t .workspace) e ∙ sym left-is)
+    enabled-tried mask after e =
+        let are = e ∙ each-tried c i a few before in
+        put mask after (ap (λ (t : Trials). t .mask) are ∙ sym mask-is) (ap (λ (t : Trials). t .workspace) are ∙ sym left-is)
 
     full-nobody : So (leb 12 (i .taken)) → (enabledMask m (length before) a ≡ 0) × (leftBy m (behindTrials m (length before) a) a before ≡ before)
     full-nobody f = let g = le-ltb (i .taken) 12 (leb-true 12 (i .taken) f) in (mask-is ∙ rw g, left-is ∙ rw g)

@@ -10,5 +10,6 @@ pub mod Preserved
 -- The workspace: when it is filled.
 pub mod Fillable
 -- Who may act.
+pub mod Candidates
 pub mod Enabling
 pub mod Unordered

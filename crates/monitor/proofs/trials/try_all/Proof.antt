@@ -1,4 +1,4 @@
--- The candidates are found, what each user up to the last of them meets is laid out, and these users are tried with it (`Enabling`).
+-- The candidates are found, what each user up to the last of them meets is laid out, and these users are tried with it (`Candidates`).
 use mathlib.Core.Path.{_≡_, sym}
 use Prim.Native.Nat.{_≤_}
 use native.Mathlib.Omega.{arith}
@@ -7,7 +7,7 @@ use lib.ListN.{length}
 use lib.Seq.{length-take-le}
 use Rattle.instance.proofs.Formed.{ConfigurationFormed, configuration-formed, InstanceFormed, instance-formed, users-most}
 use Rattle.monitor.proofs.Fillable.{fillable-formed}
-use Rattle.monitor.proofs.Enabling.{found-few, found-tried}
+use Rattle.monitor.proofs.Candidates.{found-few, found-tried}
 use Rattle.monitor.proofs.trials.try_all.Statement.{statement}
 use Rattle.monitor.proofs.trials.try_all.Tie as tie
 
