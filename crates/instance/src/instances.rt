@@ -62,14 +62,13 @@ fn actions_ok(users: u32, units: u32, actions: [Action; 12], taken: usize) -> bo
 fn idle_actions(actions: [Action; 12], from: usize) -> bool
     ensures { λ r. ⌜ r ≡ all isIdle (drop from actions) ⌝ }
 {
+    let mut idle = true;
     let mut i = from;
     while i < 12 {
-        if !is_idle(actions[i]) {
-            return false;
-        }
+        idle = idle & is_idle(actions[i]);
         i += 1;
     }
-    true
+    idle
 }
 
 impl Instance {

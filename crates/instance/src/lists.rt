@@ -1,4 +1,5 @@
-// Rows of roles, bit r for role r; lists laid out in arrays, and arrays that are zero behind a list.
+// Rows of roles, bit r for role r; lists laid out in arrays, and arrays that are zero behind a list. A test for zero does not return at the
+// first place that is not so: nearly always it goes over all of them, and a loop with one way out is compiled to take several at once.
 ghost use mathlib.Core.Path.{_≡_};
 ghost use mathlib.Core.Bool.{_&&_};
 ghost use Prim.Native.Nat.{_≤_, _<_};
@@ -89,40 +90,37 @@ pub(crate) fn padded_rows(rows: &[u16]) -> [u16; 16]
 pub(crate) fn zero_words(policy: [u32; 31], from: usize) -> bool
     ensures { λ r. ⌜ r ≡ all isZero (drop from policy) ⌝ }
 {
+    let mut zero = true;
     let mut i = from;
     while i < 31 {
-        if policy[i] != 0 {
-            return false;
-        }
+        zero = zero & (policy[i] == 0);
         i += 1;
     }
-    true
+    zero
 }
 
 // Whether the rows from a place on are zero.
 pub(crate) fn zero_rows(rows: [u16; 16], from: usize) -> bool
     ensures { λ r. ⌜ r ≡ all isZero (drop from rows) ⌝ }
 {
+    let mut zero = true;
     let mut i = from;
     while i < 16 {
-        if rows[i] != 0 {
-            return false;
-        }
+        zero = zero & (rows[i] == 0);
         i += 1;
     }
-    true
+    zero
 }
 
 // Whether the permissions from a place on are zero.
 pub(crate) fn zero_permissions(permissions: [u64; 16], from: usize) -> bool
     ensures { λ r. ⌜ r ≡ all isZero (drop from permissions) ⌝ }
 {
+    let mut zero = true;
     let mut i = from;
     while i < 16 {
-        if permissions[i] != 0 {
-            return false;
-        }
+        zero = zero & (permissions[i] == 0);
         i += 1;
     }
-    true
+    zero
 }

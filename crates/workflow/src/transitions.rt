@@ -83,12 +83,11 @@ fn is_idle(transition: Transition) -> bool
 pub(crate) fn idle_transitions(transitions: [Transition; 64], from: usize) -> bool
     ensures { λ r. ⌜ r ≡ all isIdle (drop from transitions) ⌝ }
 {
+    let mut idle = true;
     let mut i = from;
     while i < 64 {
-        if !is_idle(transitions[i]) {
-            return false;
-        }
+        idle = idle & is_idle(transitions[i]);
         i += 1;
     }
-    true
+    idle
 }
