@@ -76,7 +76,7 @@ opened o = cond (eqb (openCode o) 0) (fresh o) blank
 abbrev pub opening : Opening → Opened
 opening o = record { code = codeIn o (openCode o); monitor = opened o }
 
--- ── number 15: exactly 01's list ──
+-- ── number 15: exactly 01's list, and what 02's E4 adds to it ──
 abbrev pub wellFormed : Monitor → Bool
 wellFormed m = configurationOk (m .configuration) && instanceOk (m .configuration) (m .instance)
 
