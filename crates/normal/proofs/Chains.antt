@@ -1,12 +1,12 @@
 -- A normal form's words are a chain of any operator, which leans right; and how the code takes a chain apart.
 use mathlib.Core.Path.{_≡_, refl, sym, ap, _∙_, subst}
-use mathlib.Core.Bool.{true, false, So, true≢false}
+use mathlib.Core.Bool.{Bool, true, false, So, cond, true≢false}
 use mathlib.Core.List.{List, [], _∷_, _++_, append-assoc, append-nil}
 use Prim.Native.Nat.{ℕ, zero, suc, _+_, _≤_, _<_, _^_}
 use native.Mathlib.Nat.{add-zero}
 use native.Mathlib.Numerals.{add-one, add-two, one-add}
 use native.Mathlib.Omega.{arith}
-use lib.Dec.{eqb}
+use lib.Dec.{ltb, eqb}
 use lib.ListN.{length, getD, take, drop, length-append, length-take, length-drop, List·getD-append}
 use lib.Seq.{take-at, drop-append-seam}
 use borrow.Author.Tests.{eq-eqb, eqb-false, ne-eqb, le-ltb}
@@ -20,19 +20,20 @@ use Rattle.soda.proofs.Terms.{size-pos}
 use Rattle.soda.proofs.Words.{op-high, same-kind, encode-length, words-trans, compare-in-place}
 use Rattle.soda.proofs.Normal.{by-operands, operands-some, chain-cons, normal-operands}
 use Rattle.soda.proofs.EqualForms.{normal-keeps, normal-is-normal}
+use Rattle.policy.specs.Kinds.{NOT, EITHER}
 use Rattle.policy.specs.Words.{kind, sides}
 use Rattle.normal.specs.Private.{span, lead, operandOf, Operand, Chain, last, more}
 use Rattle.policy.proofs.Grammar.{op-sides}
 use Rattle.policy.proofs.Encoding.{kind-word}
 
 -- ── word counts ──
-few : (l : List ℕ) → All (λ (n : ℕ). n ≤ 2) l → (k : ℕ) → getD l k 0 ≤ 2
-few [] h k = omega arith
-few (x ∷ l) h zero = h .0
-few (x ∷ l) h (suc k) = few l (h .1) k
-
 pub sides-few : (k : ℕ) → sides k ≤ 2
-sides-few = few (0 ∷ 0 ∷ 0 ∷ 0 ∷ 1 ∷ 1 ∷ 2 ∷ 2 ∷ 2 ∷ 2 ∷ []) (omega arith)
+sides-few k = few (ltb k NOT) (ltb k EITHER)
+  where
+    few : (a b : Bool) → cond a 0 (cond b 1 2) ≤ 2
+    few true b = omega arith
+    few false true = omega arith
+    few false false = omega arith
 
 pub span-none : (ws : List ℕ) → span 0 ws ≡ 0
 span-none [] = refl

@@ -10,9 +10,9 @@ use Rattle.soda.specs.Terms.{Op, either, both, together, apart, Term, everyone,
 use Rattle.soda.specs.Words.{word, opKind, opWord, encode, fits, declared}
 use Rattle.soda.proofs.Bools.{and-split, and-join, lt-so, so-lt, so-eq}
 use Rattle.soda.proofs.Words.{declared-fits}
-use Rattle.policy.specs.Words.{kind, operand, operandOk, wordOk}
-use Rattle.policy.specs.Accepted.{KindOfWord, OperandOfWord}
-use Rattle.policy.proofs.Grammar.{Begins, begins1, begins2, begins3, begins4, begins5, beginsOp}
+use Rattle.policy.specs.Words.{kind, operand, sides, operandOk, wordOk}
+use Rattle.policy.specs.Accepted.{KindOfWord, OperandOfWord, SidesOfTerm}
+use Rattle.policy.proofs.Grammar.{Begins, begins1, begins2, begins3, begins4, begins5, beginsOp, op-sides}
 
 -- ── from words to a term ──
 module _ (users roles : ℕ) where
@@ -90,6 +90,14 @@ kind-word k x h = omega arith
 
 operand-word : OperandOfWord
 operand-word k x h = omega arith
+
+sides-of-term : SidesOfTerm
+sides-of-term everyone f = refl
+sides-of-term (role r) f = ap sides (kind-word 2 r (so-lt r (2 ^ 16) f))
+sides-of-term (set m) f = ap sides (kind-word 3 m (so-lt m (2 ^ 16) f))
+sides-of-term (¬ᵗ φ) f = refl
+sides-of-term (φ ⁺) f = refl
+sides-of-term (bin op φ ψ) f = ap sides (kind-word (opKind op) 0 (omega arith)) ∙ op-sides op
 
 pub begins-encode : (φ : Term) (rest : List ℕ) → So (fits φ) → Begins (encode φ ++ rest) φ rest
 begins-encode everyone rest f = begins1 refl

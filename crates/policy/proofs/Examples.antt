@@ -54,6 +54,10 @@ cases =
     ∷ row 3 3 (0x02000003 ∷ 0x01000000 ∷ []) (Refused (Fault WORD 0))
     ∷ row 3 3 (0x03000008 ∷ 0x01000000 ∷ []) (Refused (Fault WORD 0))
     ∷ row 3 3 (0x03000000 ∷ 0x01000000 ∷ []) (Refused (Fault WORD 0))
+    -- kinds 0, 10 and 255 with the sides that the rule would give them
+    ∷ row 3 3 (0x00000000 ∷ []) (Refused (Fault WORD 0))
+    ∷ row 3 3 (0x0a000000 ∷ 0x01000000 ∷ 0x01000000 ∷ []) (Refused (Fault WORD 0))
+    ∷ row 3 3 (0xff000000 ∷ 0x01000000 ∷ 0x01000000 ∷ []) (Refused (Fault WORD 0))
     -- of two bad words the first; the last word
     ∷ row 3 3 (0x08000000 ∷ 0x03000000 ∷ 0x02000003 ∷ []) (Refused (Fault WORD 1))
     ∷ row 3 3 (0x08000000 ∷ 0x01000000 ∷ 0x02000003 ∷ []) (Refused (Fault WORD 2))

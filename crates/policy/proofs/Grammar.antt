@@ -1,28 +1,24 @@
 -- The grammar of policy words as a relation, and that reading a row of terms from the last word to the first finds the same.
 use mathlib.Core.Path.{_≡_, refl, sym, _∙_}
 use mathlib.Core.Logic.{_⊎_, inl, inr}
-use mathlib.Core.Bool.{Bool, true, false, _&&_, cond}
+use mathlib.Core.Bool.{false, cond}
 use mathlib.Core.List.{List, [], _∷_}
 use mathlib.Core.Option.{Option, some, none}
 use Prim.Native.Nat.{ℕ, zero, suc, _+_, _<_}
 use native.Mathlib.Numerals.{one-add}
 use native.Mathlib.Omega.{arith}
-use lib.Dec.{leb, ltb, eqb}
+use lib.Dec.{ltb, eqb}
 use lib.ListN.{length, drop}
 use lib.Seq.{drop-drop}
 use borrow.Author.Tests.{le-leb, lt-leb, eq-eqb, ne-eqb}
 use Rattle.soda.specs.Terms.{Op, either, both, together, apart, Term, everyone, role, set, ¬ᵗ_, _⁺, bin, unitOp, size}
 use Rattle.soda.specs.Words.{opKind}
-use Rattle.policy.specs.Kinds.{EVERYONE, TOGETHER, APART}
-use Rattle.policy.specs.Words.{Kind, bad, everyoneK, roleK, setK, notK, plusK, opK, kind, operand, sides, kindOf, head, tail, lift1, lift2, push, row, first, single, decode}
+use Rattle.policy.specs.Kinds.{TOGETHER}
+use Rattle.policy.specs.Words.{Kind, bad, everyoneK, roleK, setK, notK, plusK, opK, kind, operand, sides, known, kindOf, head, tail, lift1, lift2, push, row, first, single, decode}
 use Rattle.policy.specs.Accepted.{OpSides}
 
 -- ── kinds ──
--- a kind of 01's table
-abbrev pub known : ℕ → Bool
-known k = leb EVERYONE k && leb k APART
-
--- 01's table: a kind and its number of sides
+-- the kinds of words, and how many sides a term of each has
 pub data Row : ℕ → ℕ → Type 0 where
   row1 : Row 1 0
   row2 : Row 2 0
@@ -31,24 +27,25 @@ pub data Row : ℕ → ℕ → Type 0 where
   row5 : Row 5 1
   rowOp : (op : Op) → Row (opKind op) 2
 
+-- a kind is one of them, with the sides that the rule gives it, or it is none
 abbrev pub Known : ℕ → Type 0
-Known k = ((known k ≡ true) × Row k (sides k)) ⊎ ((known k ≡ false) × (kindOf k ≡ bad) × (sides k ≡ 0))
+Known k = Row k (sides k) ⊎ ((known k ≡ false) × (kindOf k ≡ bad))
 
 pub past-nine : (k : ℕ) → 9 < k → known k ≡ false
 past-nine k h = rw (le-leb 1 k (omega arith), lt-leb k 9 h)
 
 pub row-of : (k : ℕ) → Known k
-row-of zero = inr (refl, refl, refl)
-row-of (suc zero) = inl (refl, row1)
-row-of (suc (suc zero)) = inl (refl, row2)
-row-of (suc (suc (suc zero))) = inl (refl, row3)
-row-of (suc (suc (suc (suc zero)))) = inl (refl, row4)
-row-of (suc (suc (suc (suc (suc zero))))) = inl (refl, row5)
-row-of (suc (suc (suc (suc (suc (suc zero)))))) = inl (refl, rowOp either)
-row-of (suc (suc (suc (suc (suc (suc (suc zero))))))) = inl (refl, rowOp both)
-row-of (suc (suc (suc (suc (suc (suc (suc (suc zero)))))))) = inl (refl, rowOp together)
-row-of (suc (suc (suc (suc (suc (suc (suc (suc (suc zero))))))))) = inl (refl, rowOp apart)
-row-of (suc (suc (suc (suc (suc (suc (suc (suc (suc (suc k)))))))))) = inr (past-nine (suc (suc (suc (suc (suc (suc (suc (suc (suc (suc k)))))))))) (omega arith), refl, refl)
+row-of zero = inr (refl, refl)
+row-of (suc zero) = inl row1
+row-of (suc (suc zero)) = inl row2
+row-of (suc (suc (suc zero))) = inl row3
+row-of (suc (suc (suc (suc zero)))) = inl row4
+row-of (suc (suc (suc (suc (suc zero))))) = inl row5
+row-of (suc (suc (suc (suc (suc (suc zero)))))) = inl (rowOp either)
+row-of (suc (suc (suc (suc (suc (suc (suc zero))))))) = inl (rowOp both)
+row-of (suc (suc (suc (suc (suc (suc (suc (suc zero)))))))) = inl (rowOp together)
+row-of (suc (suc (suc (suc (suc (suc (suc (suc (suc zero))))))))) = inl (rowOp apart)
+row-of (suc (suc (suc (suc (suc (suc (suc (suc (suc (suc k)))))))))) = inr (past-nine (suc (suc (suc (suc (suc (suc (suc (suc (suc (suc k)))))))))) (omega arith), refl)
 
 pub op-sides : OpSides
 op-sides either = refl
@@ -147,7 +144,7 @@ module _ (w : ℕ) (ws : List ℕ) where
 parsed : (ws : List ℕ) → Parsed ws (row ws)
 parsed [] = tt
 parsed (w ∷ ws) = elim (row-of (kind w)) [
-  | inl r ↦ step w ws (r .1) refl (row ws) (parsed ws)
+  | inl r ↦ step w ws r refl (row ws) (parsed ws)
   | inr r ↦ rw (r .1) tt
 ]
 

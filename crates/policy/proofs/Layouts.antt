@@ -2,7 +2,7 @@
 use mathlib.Core.Path.{_≡_, refl, sym, _∙_, ap}
 use mathlib.Core.Logic.{inl, inr}
 use mathlib.Core.Bool.{Bool, false, So, not, _&&_, and-assoc, and-false, true≢false}
-use mathlib.Core.List.{[]}
+use mathlib.Core.List.{List, [], _∷_}
 use Prim.Native.Nat.{ℕ, _+_, _-_, _*_, _/_, _%_, _^_, _≤_, _<_}
 use native.Mathlib.Nat.{one-mul, mod-eq-of-lt, pow-le-pow-right}
 use native.Mathlib.Omega.{arith}
@@ -10,13 +10,14 @@ use lib.Dec.{leb, ltb, eqb, lit<}
 use lib.ListN.{getD}
 use lib.Pow.{pow-lt}
 use borrow.Author.Tests.{le-leb, leb-false, le-ltb, eqb-false, ne-eqb}
+use Rattle.soda.specs.Lists.{all}
 use Rattle.soda.specs.Terms.{Op, either, both, together, apart}
 use Rattle.soda.specs.Words.{opKind}
 use Rattle.soda.proofs.Bools.{by-test, same-test, and-split, and-join, lt-so, so-lt, eq-so, so-eq}
 use Rattle.policy.specs.Kinds.{EVERYONE, APART}
-use Rattle.policy.specs.Words.{kind, operand, operandOk, wordOk}
-use Rattle.policy.specs.Private.{leastWords, roomsOf}
-use Rattle.policy.proofs.Grammar.{known, Row, row1, row2, row3, row4, row5, rowOp, row-of}
+use Rattle.policy.specs.Words.{kind, operand, operandOk, wordOk, known}
+use Rattle.policy.specs.Private.{allKnown, leastWords, roomsOf}
+use Rattle.policy.proofs.Grammar.{Row, row1, row2, row3, row4, row5, rowOp, row-of}
 
 pub one-shl : (i : ℕ) → i < 32 → (1 * 2 ^ i) % 2 ^ 32 ≡ 2 ^ i
 one-shl i h = rw one-mul (mod-eq-of-lt (pow-lt h))
@@ -29,6 +30,14 @@ pub no-kind : (users roles w : ℕ) → known (kind w) ≡ false → wordOk user
 no-kind users roles w e =
     ap (λ (b : Bool). eqb (w / 2 ^ 16 % 2 ^ 8) 0 && b) (sym (and-assoc (leb EVERYONE (kind w)) (leb (kind w) APART) (operandOk users roles (kind w) (operand w))) ∙ rw e)
     ∙ and-false (eqb (w / 2 ^ 16 % 2 ^ 8) 0)
+
+-- so words in the layout are of known kinds
+pub layout-known : (users roles : ℕ) (ws : List ℕ) → So (all (wordOk users roles) ws) → So (allKnown ws)
+layout-known users roles [] h = refl
+layout-known users roles (w ∷ ws) h =
+    let s = and-split (wordOk users roles w) (all (wordOk users roles) ws) h in
+    let k = by-test (known (kind w)) (λ t. t) (λ f. absurd (true≢false (sym (s .0) ∙ no-kind users roles w f))) in
+    and-join (known (kind w)) (allKnown ws) k (layout-known users roles ws (s .1))
 
 module _ (users roles : ℕ) (hu : users ≤ 16) (hr : roles ≤ 2 ^ 16) (w r : ℕ) (fits : r < 2 ^ 32) where
   -- bits 16 to 23
@@ -91,7 +100,7 @@ module _ (users roles : ℕ) (hu : users ≤ 16) (hr : roles ≤ 2 ^ 16) (w r : 
 
   pub in-room : kind w ≤ 9 → (r + getD leastWords (kind w) 0) % 2 ^ 32 ≡ w → ltb r (getD (roomsOf users roles) (kind w) 0) ≡ wordOk users roles w
   in-room l e = elim (row-of (kind w)) [
-    | inl q ↦ by-row (q .1) refl e
+    | inl q ↦ by-row q refl e
     | inr q ↦ rw (zero-kind (kind w) l (q .0)) (le-ltb r 0 (omega arith)) ∙ sym (no-kind users roles w (q .0))
   ]
     where

@@ -153,7 +153,7 @@ filled : (users roles : ℕ) (ws : List ℕ) (n : ℕ) → So (all (wordOk users
     → Filled n (row (ws ++ replicate (n + length ws) EVERYONE-WORD))
 filled users roles [] n h l = let z : n + 0 ≡ n = omega arith in rw z (everyones n)
 filled users roles (w ∷ ws) n h l = elim (row-of (kind w)) [
-  | inl r ↦ pushed n (operand w) (r .1) (row (ws ++ replicate (n + suc (length ws)) EVERYONE-WORD)) l (rw z at (filled users roles ws (suc n) (s .1) (omega arith)))
+  | inl r ↦ pushed n (operand w) r (row (ws ++ replicate (n + suc (length ws)) EVERYONE-WORD)) l (rw z at (filled users roles ws (suc n) (s .1) (omega arith)))
   | inr r ↦ absurd (true≢false (sym (s .0) ∙ no-kind users roles w (r .0)))
 ]
   where

@@ -1,32 +1,32 @@
 -- What the reader answers at the words, by the first word's kind and the answers for its sides.
 use mathlib.Core.Path.{_≡_, refl, sym, _∙_, ap, ap₂}
 use mathlib.Core.Logic.{inl, inr}
-use mathlib.Core.Bool.{Bool, true, false, So, _&&_, cond, true≢false}
+use mathlib.Core.Bool.{Bool, false, So, _&&_, cond, true≢false}
 use mathlib.Core.List.{List, [], _∷_, _++_, map, map-append}
 use mathlib.Core.Option.{Option, some, none}
 use Prim.Native.Nat.{ℕ, zero, suc, _+_, _*_, _%_, _^_, _≤_, _<_}
 use native.Mathlib.Omega.{arith}
 use lib.Bits.{bitOr}
 use lib.Dec.{leb, ltb, eqb}
-use borrow.Author.Tests.{le-leb, leb-true, ne-eqb}
+use borrow.Author.Tests.{leb-true, ne-eqb}
 use lib.ListN.{length, getD, drop, length-append, length-map}
 use lib.Seq.{drop-drop}
 use Rattle.soda.specs.Bits.{number}
 use Rattle.soda.specs.Lists.{from}
 use Rattle.soda.specs.Terms.{Op, Term, everyone, bin, unit, wellFormed, size, subterms, marks}
 use Rattle.soda.specs.Words.{opKind}
-use Rattle.soda.proofs.Bools.{by-test, and-split, and-join}
+use Rattle.soda.proofs.Bools.{and-split}
 use Rattle.soda.proofs.Lists.{from-drop}
 use Rattle.soda.proofs.Terms.{size-pos, subterms-length}
-use Rattle.policy.specs.Words.{kind, operand, sides, kindOf, head, tail, push, row, first, decode}
+use Rattle.policy.specs.Words.{kind, operand, sides, known, kindOf, head, tail, push, row, first, decode}
 use Rattle.policy.specs.Reading.{countOk}
 use Rattle.policy.specs.Accepted.{CountsInRange, LengthInRange}
-use Rattle.policy.specs.Kinds.{EVERYONE, SET, TOGETHER, APART}
+use Rattle.policy.specs.Kinds.{TOGETHER}
 use Rattle.policy.specs.Masks.{putOf}
-use Rattle.policy.specs.Private.{leaf, firstIn, oneWord, overSide, besideSides}
+use Rattle.policy.specs.Private.{allKnown, firstIn, overSide, besideSides}
 use Rattle.policy.specs.declared.reader.First.{First}
 use Rattle.policy.proofs.Masks.{put-is, joined}
-use Rattle.policy.proofs.Grammar.{unit-op, known, Row, row1, row2, row3, row4, row5, rowOp, Known, row-of, push-op, begins, row-begins, length-begins, decode-missing, decode-first}
+use Rattle.policy.proofs.Grammar.{unit-op, Row, row1, row2, row3, row4, row5, rowOp, Known, row-of, push-op, begins, row-begins, length-begins, decode-missing, decode-first}
 
 -- ── the tests of counts and length ──
 in-range : (m n : ℕ) → So (leb 1 n && leb n m) → (1 ≤ n) × (n ≤ m)
@@ -43,6 +43,19 @@ pub no-words : (ws : List ℕ) → length ws ≡ 0 → ws ≡ []
 no-words [] h = refl
 no-words (w ∷ ws) h = absurd (omega arith)
 
+-- ── words of known kinds ──
+pub known-from : (n : ℕ) (ws : List ℕ) → So (allKnown ws) → So (allKnown (from n ws))
+known-from n ws h = ap allKnown (from-drop n ws) ∙ known-drop n ws h
+  where
+    known-drop : (n : ℕ) (ws : List ℕ) → So (allKnown ws) → So (allKnown (drop n ws))
+    known-drop zero ws h = h
+    known-drop (suc n) [] h = h
+    known-drop (suc n) (w ∷ ws) h = known-drop n ws (and-split (known (kind w)) (allKnown ws) h .1)
+
+known-first : (ws : List ℕ) → 0 < length ws → So (allKnown ws) → So (known (kind (getD ws 0 0)))
+known-first [] h a = absurd (omega arith)
+known-first (w ∷ ws) h a = and-split (known (kind w)) (allKnown ws) a .0
+
 -- the first word is of kind k, which has n sides
 pub record Word (ws : List ℕ) (k n : ℕ) : Type 0 where
   pub inside : 0 < length ws
@@ -54,47 +67,12 @@ first-word : (k : ℕ) (ws : List ℕ) → 0 < length ws → k ≡ kind (getD ws
 first-word k [] h e = absurd (omega arith)
 first-word k (w ∷ ws) h e = rw (e, from-drop 1 (w ∷ ws))
 
-pub word-sided : (ws : List ℕ) (k n : ℕ) → 0 < length ws → k ≡ kind (getD ws 0 0) → n ≡ sides k → (n ≡ 0 → ⊥) → Word ws k n
-word-sided ws k n i e q z = record { inside = i; kind-row = its-row (row-of k); is = first-word k ws i e }
+pub word-sided : (ws : List ℕ) (k n : ℕ) → 0 < length ws → So (allKnown ws) → k ≡ kind (getD ws 0 0) → n ≡ sides k → Word ws k n
+word-sided ws k n i a e q = record { inside = i; kind-row = its-row (row-of k); is = first-word k ws i e }
   where
     its-row : Known k → Row k n
-    its-row (inl r) = rw q (r .1)
-    its-row (inr r) = absurd (z (q ∙ r .2))
-
-pub word-leaf : (ws : List ℕ) (k : ℕ) → (length ws ≡ 0 → ⊥) → k ≡ kind (getD ws 0 0) → leaf k ≡ true → Word ws k 0
-word-leaf ws k h e t =
-    let i : 0 < length ws = omega arith in
-    let s = and-split (leb EVERYONE k) (leb k SET) t in
-    record { inside = i; kind-row = row-leaf k (leb-true EVERYONE k (s .0)) (leb-true k SET (s .1)); is = first-word k ws i e }
-  where
-    row-leaf : (k : ℕ) → 1 ≤ k → k ≤ 3 → Row k 0
-    row-leaf zero l m = absurd (omega arith)
-    row-leaf (suc zero) l m = row1
-    row-leaf (suc (suc zero)) l m = row2
-    row-leaf (suc (suc (suc zero))) l m = row3
-    row-leaf (suc (suc (suc (suc k)))) l m = absurd (omega arith)
-
--- a word without sides is a term by itself, or its kind is none of the table's
-unknown-leaf : (k : ℕ) → known k ≡ false → leaf k ≡ false
-unknown-leaf k e = by-test (leaf k)
-    (λ t. let s = and-split (leb EVERYONE k) (leb k SET) t in
-    let l = leb-true k SET (s .1) in
-    absurd (true≢false (sym (and-join (leb EVERYONE k) (leb k APART) (s .0) (le-leb k APART (omega arith))) ∙ e)))
-    λ f. f
-
-pub scan-single : (ws : List ℕ) (k : ℕ) → 0 < length ws → k ≡ kind (getD ws 0 0) → sides k ≡ 0 → oneWord k ≡ firstIn (first ws)
-scan-single ws k i e z = elim (row-of k) [
-  | inl r ↦ rw (first-word k ws i e) (go (r .1) z)
-  | inr r ↦ rw (first-word k ws i e, r .1, unknown-leaf k (r .0))
-]
-  where
-    go : {j n : ℕ} → Row j n → n ≡ 0 → oneWord j ≡ firstIn (head (push (kindOf j) (operand (getD ws 0 0)) (row (from 1 ws))))
-    go row1 z = refl
-    go row2 z = refl
-    go row3 z = refl
-    go row4 z = absurd (omega arith)
-    go row5 z = absurd (omega arith)
-    go (rowOp op) z = absurd (omega arith)
+    its-row (inl r) = rw q r
+    its-row (inr u) = absurd (true≢false (sym (ap known e ∙ known-first ws i a) ∙ u .0))
 
 missing-side : {k n : ℕ} → Row k n → (n ≡ 0 → ⊥) → (x : ℕ) (ts : List (Option Term)) → head ts ≡ none → head (push (kindOf k) x ts) ≡ none
 missing-side row1 z x ts e = absurd (z refl)

@@ -5,17 +5,17 @@ use mathlib.Core.Bool.{false, So, _&&_}
 use mathlib.Core.List.{List}
 use mathlib.Core.Option.{some}
 use Prim.Native.Nat.{ℕ, _^_, _≤_, _<_}
-use lib.ListN.{length}
+use lib.ListN.{length, getD}
 use Rattle.soda.specs.Lists.{all}
 use Rattle.soda.specs.Terms.{Op, Term, unit, wellFormed, size, marks}
 use Rattle.soda.specs.Words.{word, opKind, encode, fits, declared}
 use Rattle.policy.specs.Codes.{TERM, UNIT}
-use Rattle.policy.specs.Words.{kind, operand, sides, wordOk, decode}
+use Rattle.policy.specs.Words.{kind, operand, sides, termSides, wordOk, decode}
 use Rattle.policy.specs.Reading.{countOk, lengthOk, readPolicy, numberOf}
 use Rattle.policy.specs.declared.PolicyRead.the-variants.{Accepted}
 
 -- ── words ──
--- A word is its kind and its operand, which has 16 bits; an operator has two sides.
+-- A word is its kind and its operand, which has 16 bits; an operator has two sides ..
 abbrev pub KindOfWord : Type 0
 KindOfWord = (k x : ℕ) → x < 2 ^ 16 → kind (word k x) ≡ k
 
@@ -24,6 +24,10 @@ OperandOfWord = (k x : ℕ) → x < 2 ^ 16 → operand (word k x) ≡ x
 
 abbrev pub OpSides : Type 0
 OpSides = (op : Op) → sides (opKind op) ≡ 2
+
+-- .. and any term as many as the rule gives the kind of its first word.
+abbrev pub SidesOfTerm : Type 0
+SidesOfTerm = (φ : Term) → So (fits φ) → sides (kind (getD (encode φ) 0 0)) ≡ length (termSides φ)
 
 -- ── what the words are ──
 -- The words are those of φ, whose operands have their 16 bits.

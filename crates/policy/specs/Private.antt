@@ -1,20 +1,20 @@
 -- What the crate's own functions answer: tests of words, places, and the first term of some words.
-use mathlib.Core.Bool.{Bool, true, false, not, _&&_, _||_, cond}
+use mathlib.Core.Bool.{Bool, false, not, _&&_, _||_, cond}
 use mathlib.Core.List.{List, [], _∷_}
 use mathlib.Core.Option.{Option, some, none}
 use Prim.Native.Nat.{ℕ, _+_, _-_, _*_, _/_, _%_, _^_}
 use lib.Bits.{bitOr}
-use lib.Dec.{leb, ltb, eqb}
+use lib.Dec.{ltb, eqb}
+use Rattle.soda.specs.Lists.{all}
 use Rattle.soda.specs.Bits.{bit}
 use Rattle.soda.specs.Terms.{Term, unit, wellFormed, size, marks}
-use Rattle.policy.specs.Kinds.{EVERYONE, SET, NOT, TOGETHER}
+use Rattle.policy.specs.Kinds.{NOT, TOGETHER}
 use Rattle.policy.specs.Masks.{putOf}
-use Rattle.policy.specs.Words.{kind, sides}
+use Rattle.policy.specs.Words.{kind, sides, known}
 use Rattle.policy.specs.declared.reader.First.{First}
 
--- a kind without sides
-abbrev pub leaf : ℕ → Bool
-leaf k = leb EVERYONE k && leb k SET
+abbrev pub allKnown : List ℕ → Bool
+allKnown ws = all (λ w. known (kind w)) ws
 
 -- for each kind of 01's table, the least word that may be in the layout, and how many are from it on
 abbrev pub leastWords : List ℕ
@@ -37,10 +37,6 @@ overUnits units (w ∷ ws) = (not (eqb (sides (kind w)) 1) || bit 0 (units / 2 ^
 abbrev pub firstIn : Option Term → First
 firstIn none = record { words = 0; unit = false; formed = false; units = 0 }
 firstIn (some φ) = record { words = size φ; unit = unit φ; formed = wellFormed φ; units = marks unit φ }
-
--- what is read of a word of kind k that has no sides
-abbrev pub oneWord : ℕ → First
-oneWord k = cond (leaf k) (record { words = 1; unit = true; formed = true; units = 1 }) (record { words = 0; unit = false; formed = false; units = 0 })
 
 -- not or plus over a side
 abbrev pub overSide : ℕ → First → First

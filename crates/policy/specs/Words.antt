@@ -6,7 +6,7 @@ use Prim.Native.Nat.{ℕ, _/_, _%_, _^_}
 use lib.Dec.{leb, ltb, eqb}
 use lib.ListN.{getD}
 use Rattle.soda.specs.Terms.{Op, either, both, together, apart, Term, everyone, role, set, ¬ᵗ_, _⁺, bin}
-use Rattle.policy.specs.Kinds.{EVERYONE, ROLE, SET, APART}
+use Rattle.policy.specs.Kinds.{EVERYONE, ROLE, SET, NOT, EITHER, APART}
 
 -- the kind sits in bits 24 to 31, the operand in bits 0 to 15
 abbrev pub kind : ℕ → ℕ
@@ -15,9 +15,19 @@ kind w = w / 2 ^ 24
 abbrev pub operand : ℕ → ℕ
 operand w = w % 2 ^ 16
 
--- the sides come from a table with one entry a kind
+-- The number of sides of a word by its kind: "below 4 none, below 6 one, else two" (document 02, E5). `SidesOfTerm` ties it to terms.
+-- Kind 0 would have none and a kind above 9 two; neither is in the layout, and 2 comes before a word's sides are asked for.
 abbrev pub sides : ℕ → ℕ
-sides k = getD (0 ∷ 0 ∷ 0 ∷ 0 ∷ 1 ∷ 1 ∷ 2 ∷ 2 ∷ 2 ∷ 2 ∷ []) k 0
+sides k = cond (ltb k NOT) 0 (cond (ltb k EITHER) 1 2)
+
+-- the sides of a term, in the order of their words
+abbrev pub termSides : Term → List Term
+termSides everyone = []
+termSides (role r) = []
+termSides (set m) = []
+termSides (¬ᵗ φ) = φ ∷ []
+termSides (φ ⁺) = φ ∷ []
+termSides (bin op φ ψ) = φ ∷ ψ ∷ []
 
 -- the operand names only what is declared: a role of `roles`, a set of `users` that is not empty; else it is 0
 abbrev pub operandOk : ℕ → ℕ → ℕ → ℕ → Bool
@@ -32,7 +42,11 @@ wordOk users roles w =
     eqb (w / 2 ^ 16 % 2 ^ 8) 0
     && (leb EVERYONE (kind w) && (leb (kind w) APART && operandOk users roles (kind w) (operand w)))
 
--- 01's table of kinds; kind 0 and those above 9 are none of them
+-- a kind of 01's table; kind 0 and those above 9 are none
+abbrev pub known : ℕ → Bool
+known k = leb EVERYONE k && leb k APART
+
+-- 01's table of kinds; every other is `bad`
 pub data Kind : Type 0 where
   bad everyoneK roleK setK notK plusK : Kind
   opK : Op → Kind

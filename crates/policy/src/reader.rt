@@ -1,11 +1,11 @@
 // The recursive reader: the first term of the words, from its sides.
 ghost use mathlib.Core.Path.{_≡_};
+ghost use mathlib.Core.Bool.{So};
 ghost use Prim.Native.Nat.{_+_, _≤_};
 ghost use lib.ListN.{length};
 ghost use Rattle.policy.specs.Words.{first};
-ghost use Rattle.policy.specs.Private.{firstIn, oneWord, overSide, besideSides};
+ghost use Rattle.policy.specs.Private.{allKnown, firstIn, overSide, besideSides};
 use super::kinds;
-use super::words::is_leaf;
 use super::words::kind_of;
 use super::words::put;
 use super::words::sides_of;
@@ -63,36 +63,29 @@ fn beside_sides(k: usize, a: First, b: First) -> First
     }
 }
 
-// A word of kind k that has no sides: a term by itself, or none.
-fn one_word(k: usize) -> First
-    ensures { λ r. ⌜ r ≡ oneWord k ⌝ }
-{
-    if is_leaf(k) { ONE_WORD } else { NO_TERM }
-}
-
 // Reads the first term of the words, a side of another: a term of one word is read without a call.
 fn side(words: &[u32]) -> First
-    requires { ⌜ length (now words) ≤ 31 ⌝ }
+    requires { ⌜ (length (now words) ≤ 31) × So (allKnown (now words)) ⌝ }
     ensures { λ r. ⌜ r ≡ firstIn (first (now (words .entry))) ⌝ }
 {
     if words.len() == 0 {
         return NO_TERM;
     }
-    if is_leaf(kind_of(words[0])) {
+    if sides_of(kind_of(words[0])) == 0 {
         return ONE_WORD;
     }
     scan(words)
 }
 
-// Reads the first term of the words.
+// Reads the first term of the words. None of them is of an unknown kind, which would have sides by the rule but begins no term.
 pub(crate) fn scan(words: &[u32]) -> First
-    requires { ⌜ (1 ≤ length (now words)) × (length (now words) ≤ 31) ⌝ }
+    requires { ⌜ (1 ≤ length (now words)) × (length (now words) ≤ 31) × So (allKnown (now words)) ⌝ }
     ensures { λ r. ⌜ r ≡ firstIn (first (now (words .entry))) ⌝ }
 {
     let k = kind_of(words[0]);
     let n = sides_of(k);
     if n == 0 {
-        return one_word(k);
+        return ONE_WORD;
     }
     let a = side(&words[1..]);
     if a.words == 0 {

@@ -6,12 +6,9 @@ ghost use Rattle.soda.specs.Lists.{firstFailing};
 ghost use Rattle.policy.specs.Words.{kind, operand, sides, wordOk};
 ghost use Rattle.policy.specs.Masks.{putOf};
 ghost use Rattle.policy.specs.Reading.{countOk, lengthOk, layoutOk};
-ghost use Rattle.policy.specs.Private.{leaf, roomsOf};
+ghost use Rattle.policy.specs.Private.{roomsOf};
 use super::kinds;
 use std::num;
-
-// The number of sides of a word, by its kind.
-const SIDES: [u8; 10] = [0, 0, 0, 0, 1, 1, 2, 2, 2, 2];
 
 // The kind of a word.
 pub fn kind_of(w: u32) -> usize
@@ -27,18 +24,18 @@ pub fn operand_of(w: u32) -> u32
     w & 0xffff
 }
 
-// How many sides a word of kind k has.
+// How many sides a word of kind k has (document 02: sides by rule): below 4 none, below 6 one, else two. That is said of every k; a word
+// of kind 0 or past 9 is refused before its sides are asked for.
 pub fn sides_of(k: usize) -> u8
     ensures { λ r. ⌜ r ≡ sides k ⌝ }
 {
-    if k < 10 { SIDES[k] } else { 0 }
-}
-
-// Whether a word of kind k is a term by itself.
-pub(crate) fn is_leaf(k: usize) -> bool
-    ensures { λ r. ⌜ r ≡ leaf k ⌝ }
-{
-    (kinds::EVERYONE <= k) & (k <= kinds::SET)
+    if k < kinds::NOT {
+        return 0;
+    }
+    if k < kinds::EITHER {
+        return 1;
+    }
+    2
 }
 
 // Bits with one more below them.

@@ -20,13 +20,13 @@ use Rattle.soda.specs.Roles.{meetsNot, meets}
 use Rattle.soda.specs.Words.{opKind}
 use Rattle.soda.proofs.Bits.{digit-lt, bit-number}
 use Rattle.soda.proofs.Terms.{size-pos, subterms-length}
-use Rattle.policy.specs.Words.{Kind, bad, everyoneK, roleK, setK, notK, plusK, opK, kind, operand, kindOf, lift2, push, row, single, decode}
+use Rattle.policy.specs.Words.{Kind, bad, everyoneK, roleK, setK, notK, plusK, opK, kind, operand, known, kindOf, lift2, push, row, single, decode}
 use Rattle.policy.specs.Masks.{putOf}
 use Rattle.units.specs.Private.{placedOf, noRow, overOf, besideOf, stepOf, analysisIn}
 use Rattle.units.specs.declared.terms.Stack.{Stack}
 use Rattle.units.specs.declared.terms.Analysis.{Analysis}
 use Rattle.policy.proofs.Masks.{put-is}
-use Rattle.policy.proofs.Grammar.{known, Row, row1, row2, row3, row4, row5, rowOp, row-of, push-op}
+use Rattle.policy.proofs.Grammar.{Row, row1, row2, row3, row4, row5, rowOp, row-of, push-op}
 
 -- the terms that begin at the words of a row of terms, one for each word
 abbrev under : List Term → List Term
@@ -233,7 +233,7 @@ module _ (u h : ℕ) where
 
   stepped : (k x : ℕ) (ts : List Term) → length (under ts) ≤ 30 → Stepped ts (stepOf u h (stackOf u h ts) k x) (push (kindOf k) x (map some ts))
   stepped k x ts l = elim (row-of k) [
-    | inl r ↦ by-row (r .1) x ts l
+    | inl r ↦ by-row r x ts l
     | inr r ↦ inr (no-kind k x (stackOf u h ts) (r .0), rw (r .1) here)
   ]
 

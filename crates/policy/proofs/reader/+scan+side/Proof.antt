@@ -1,6 +1,6 @@
 -- By the first word's sides, a law of `Scanning` says what the answer is. `side` calls `scan` on the same words, so its measure lies
 -- between: twice the length for `scan`, one more for `side`.
-use mathlib.Core.Path.{refl, sym, ap, _∙_}
+use mathlib.Core.Path.{sym, ap, _∙_}
 use mathlib.Core.List.{List}
 use Prim.Native.Nat.{ℕ, _+_, _*_, _<_, _≤_}
 use native.Mathlib.Omega.{arith}
@@ -13,17 +13,15 @@ use Rattle.soda.specs.Lists.{from}
 use Rattle.policy.specs.Words.{first}
 use Rattle.policy.specs.Private.{firstIn}
 use Rattle.policy.specs.declared.reader.First.{First}
-use Rattle.policy.proofs.Scanning.{Word, word-sided, word-leaf, no-words, first-within, scan-single, scan-leaf, scan-missing, scan-one, scan-missing-second, scan-two}
+use Rattle.policy.proofs.Scanning.{Word, known-from, word-sided, no-words, first-within, scan-leaf, scan-missing, scan-one, scan-missing-second, scan-two}
 use Rattle.policy.proofs.reader.scan.Reads as scan
 use Rattle.policy.proofs.reader.scan.Kinds as scan-kinds
 use Rattle.policy.proofs.reader.+scan+side.Lts-scan as lts
 use Rattle.policy.proofs.reader.side.Reads as side
 use Rattle.policy.proofs.reader.side.Kinds as side-kinds
 use Rattle.policy.proofs.reader.+scan+side.Lts-side as side-lts
-use Rattle.policy.proofs.words.is_leaf.Reads as is-leaf
 use Rattle.policy.proofs.reader.over_side.Reads as over-side
 use Rattle.policy.proofs.reader.beside_sides.Reads as beside-sides
-use Rattle.policy.proofs.reader.one_word.Reads as one-word
 use Rattle.policy.proofs.words.kind_of.Reads as kind-of
 use Rattle.policy.proofs.words.sides_of.Reads as sides-of
 use Rattle.policy.proofs.reader.+scan+side.{statement}
@@ -46,8 +44,6 @@ module _ (t : ℕ) where
     kind-of.Learnt,
     sides-of.Asked,
     sides-of.Learnt,
-    one-word.Asked,
-    one-word.Learnt,
     and 1 side-kinds.ps (falls 1 side-kinds.ps _<_ μ-side t) side.Pre,
     side.Post,
     over-side.Asked,
@@ -63,25 +59,22 @@ module _ (t : ℕ) where
   abbrev start : lts.After-sides-of calls at scan.Post → lts.Start calls at scan.Post
   start c = read c .before .before .before
 
-  returns : lts.Need-returns calls at scan.Post
-  returns c =
-      let r = c .before .before in
-      let k = read r .kind-of in
-      c .one-word .ensures
-      ∙ scan-single (start r .args .words .now) (k .result) (start r .pre .1 .0) (k .ensures) (sym (r .sides-of .ensures) ∙ c .before .if1 .taken)
-
   -- the first word's kind and sides
-  word : (c : lts.Else1 calls at scan.Post) → let r = c .before in Word (start r .args .words .now) (read r .kind-of .result) (r .sides-of .result)
+  word : (c : lts.After-sides-of calls at scan.Post) → Word (start c .args .words .now) (read c .kind-of .result) (c .sides-of .result)
   word c =
-      let r = c .before in
-      let k = read r .kind-of in
-      word-sided (start r .args .words .now) (k .result) (r .sides-of .result) (start r .pre .1 .0) (k .ensures) (r .sides-of .ensures) (c .if1 .left)
+      let s = start c in
+      let k = read c .kind-of in
+      word-sided (s .args .words .now) (k .result) (c .sides-of .result) (s .pre .1 .0) (s .pre .1 .2) (k .ensures) (c .sides-of .ensures)
+
+  returns : lts.Need-returns calls at scan.Post
+  returns c = scan-leaf (start (c .before) .args .words .now) (word (c .before)) (c .if1 .taken)
 
   side-requires : lts.Need-side-requires calls at scan.Post
   side-requires c κs =
       let s = start (c .before .before) in
-      let l = from-length 1 (s .args .words .now) in
-      (omega (arith, s .pre .0, s .pre .1), omega (arith, s .pre .1))
+      let ws = s .args .words .now in
+      let l = from-length 1 ws in
+      (omega (arith, s .pre .0, s .pre .1 .0), (omega (arith, s .pre .1 .1), known-from 1 ws (s .pre .1 .2)))
 
   abbrev known : lts.After-side calls at scan.Post → lts.Else1 calls at scan.Post
   known c = c .before .before
@@ -92,14 +85,14 @@ module _ (t : ℕ) where
   returns-2 : lts.Need-returns-2 calls at scan.Post
   returns-2 c =
       let e = c .before .before in
-      scan-missing (whole e) (word (known e)) (known e .if1 .left) (sym (ap (λ (f : First). f .words) (e .side .ensures)) ∙ c .if2 .taken)
+      scan-missing (whole e) (word (known e .before)) (known e .if1 .left) (sym (ap (λ (f : First). f .words) (e .side .ensures)) ∙ c .if2 .taken)
 
   -- how long the first side may be
   within : (c : lts.After-side calls at scan.Post) → (1 + c .side .result .words ≤ length (whole c)) × (length (whole c) ≤ 31)
   within c =
       let ws : List ℕ = whole c in
       let p = start (known c .before) .pre .1 in
-      (omega (arith, p, from-length 1 ws, first-within (from 1 ws), ap (λ (f : First). f .words) (c .side .ensures)), p .1)
+      (omega (arith, p .0, from-length 1 ws, first-within (from 1 ws), ap (λ (f : First). f .words) (c .side .ensures)), p .1)
 
   -- the first side is there
   abbrev first-side : lts.Else2 calls at scan.Post → lts.After-side calls at scan.Post
@@ -110,14 +103,16 @@ module _ (t : ℕ) where
       let f = c .before .before in
       let e = first-side f in
       c .over-side .ensures
-      ∙ scan-one (whole e) (word (known e)) (e .side .result) (e .side .ensures) (f .if2 .left) (c .before .if3 .taken) (omega (arith, within e))
+      ∙ scan-one (whole e) (word (known e .before)) (e .side .result) (e .side .ensures) (f .if2 .left) (c .before .if3 .taken) (omega (arith, within e))
 
   side-requires-2 : lts.Need-side-requires-2 calls at scan.Post
   side-requires-2 c κs =
       let e = first-side (c .before .before .before) in
       let s = start (known e .before) in
-      let l = from-length (1 + e .side .result .words) (s .args .words .now) in
-      (omega (arith, s .pre .0, s .pre .1), omega (arith, s .pre .1))
+      let ws = s .args .words .now in
+      let n = 1 + e .side .result .words in
+      let l = from-length n ws in
+      (omega (arith, s .pre .0, s .pre .1 .0), (omega (arith, s .pre .1 .1), known-from n ws (s .pre .1 .2)))
 
   -- where the second side is read
   abbrev parted : lts.After-side2 calls at scan.Post → lts.Else3 calls at scan.Post
@@ -128,7 +123,7 @@ module _ (t : ℕ) where
       let d = c .before .before in
       let g = parted d in
       let e = first-side (g .before) in
-      scan-missing-second (whole e) (word (known e)) (e .side .result) (e .side .ensures) (g .before .if2 .left)
+      scan-missing-second (whole e) (word (known e .before)) (e .side .result) (e .side .ensures) (g .before .if2 .left)
       (known e .if1 .left) (g .if3 .left) (sym (ap (λ (f : First). f .words) (d .side2 .ensures)) ∙ c .if4 .taken)
 
   -- how long both sides may be
@@ -151,7 +146,7 @@ module _ (t : ℕ) where
       let g = parted d in
       let e = first-side (g .before) in
       c .beside-sides .ensures
-      ∙ scan-two (whole e) (word (known e)) (e .side .result) (e .side .ensures) (g .before .if2 .left)
+      ∙ scan-two (whole e) (word (known e .before)) (e .side .result) (e .side .ensures) (g .before .if2 .left)
       (known e .if1 .left) (g .if3 .left) (d .side2 .result) (d .side2 .ensures) (f .if4 .left) (omega (arith, within-2 d))
 
 -- ── a side ──
@@ -163,8 +158,8 @@ module _ (t : ℕ) where
   side-calls = (
     kind-of.Asked,
     kind-of.Learnt,
-    is-leaf.Asked,
-    is-leaf.Learnt,
+    sides-of.Asked,
+    sides-of.Learnt,
     and 1 scan-kinds.ps (falls 1 scan-kinds.ps _<_ μ t) scan.Pre,
     scan.Post,
   )
@@ -183,26 +178,28 @@ module _ (t : ℕ) where
 
   side-returns-2 : side-lts.Need-returns-2 side-calls side-at side.Post
   side-returns-2 c =
+      let n = c .before .sides-of in
       let r = c .before .before in
-      let ws = side-given r .args .words .now in
-      scan-leaf ws (word-leaf ws (r .kind-of .result) (side-some r .if1 .left) (r .kind-of .ensures) (sym (c .before .is-leaf .ensures) ∙ c .if2 .taken)) refl
+      let s = side-given r in
+      let ws = s .args .words .now in
+      let i : 0 < length ws = omega (arith, side-some r .if1 .left) in
+      scan-leaf ws (word-sided ws (r .kind-of .result) (n .result) i (s .pre .1 .1) (r .kind-of .ensures) (n .ensures)) (c .if2 .taken)
 
   scan-requires : side-lts.Need-scan-requires side-calls side-at side.Post
   scan-requires c κs =
       let r = c .before .before in
       let s = side-given r in
-      (omega (arith, s .pre .0), (omega (arith, side-some r .if1 .left), s .pre .1))
+      (omega (arith, s .pre .0), (omega (arith, side-some r .if1 .left), s .pre .1 .0, s .pre .1 .1))
 
 pub +scan+side-spec : {M : Type 1} → statement M
 +scan+side-spec = close μ μ-side (λ t. lts.spec (calls t) (at t) scan.Post
-    (λ c. omega (arith, c .before .before .pre .1))
-    (λ c κs. search needs)
+    (λ c. omega (arith, c .before .before .pre .1 .0))
     (λ c κs. search needs)
     (λ c κs. search needs)
     (returns t)
-    (λ c. omega (arith, start t (c .before) .pre .1))
-    (λ c. omega (arith, start t (c .before) .pre .1))
-    (λ c. omega (arith, start t (c .before) .pre .1))
+    (λ c. omega (arith, start t (c .before) .pre .1 .0))
+    (λ c. omega (arith, start t (c .before) .pre .1 .0))
+    (λ c. omega (arith, start t (c .before) .pre .1 .0))
     (side-requires t)
     (returns-2 t)
     (λ c κs. omega (arith, within t (first-side t (c .before))))

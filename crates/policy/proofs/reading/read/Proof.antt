@@ -21,6 +21,7 @@ use Rattle.policy.specs.Accepted.{InLayout}
 use Rattle.policy.specs.declared.reader.First.{First}
 use Rattle.policy.specs.declared.Code.the-variants.{Fault}
 use Rattle.policy.specs.declared.PolicyRead.the-variants.{Accepted, Refused}
+use Rattle.policy.proofs.Layouts.{layout-known}
 use Rattle.policy.proofs.Scanning.{length-range, counts-most, whole}
 use Rattle.policy.proofs.Accepted.{is-miscounted, is-long as is-too-long, is-bad, is-none, is-ill, is-formed}
 use Rattle.policy.proofs.Faults.{behind-is, left-over-most, over-is, length-decoded}
@@ -97,7 +98,10 @@ returns-3 c =
 
 -- ── 3 and 4 ──
 scan-requires : tie.Need-scan-requires
-scan-requires c κs = length-range (length (given c .args .words .now)) (is-long (long c))
+scan-requires c κs =
+    let a = given c .args in
+    let l = length-range (length (a .words .now)) (is-long (long c)) in
+    (l .0, l .1, layout-known (a .users) (a .roles) (a .words .now) (in-layout c .layout))
 
 -- the one term that the words are, if the first term has all of them
 is-first : (c : tie.After-scan) → let ws = given (c .before) .args .words .now in
