@@ -54,6 +54,13 @@ fn bad_words() -> Vec<NamedPolicy> {
             }
         }
     }
+    // kinds that are none of 01's, with as many terms behind them as a word may have sides
+    for kind in [0, 10, 255] {
+        for sides in 0..=2 {
+            let words = [vec![kind << 24], vec![ALL; sides]].concat();
+            found.push((format!("2 at 0, kind {kind} with {sides} terms behind it"), words));
+        }
+    }
     let longest = |from: usize| [vec![ALL; from], vec![BAD[2]; MOST_WORDS - from]].concat();
     found.extend(named(&[
         ("2 at 0, first and last word", &[BAD[1], ALL, BAD[2]]),
