@@ -75,17 +75,20 @@ enum {
     OSKHREIN_NO = 'n'
 };
 
-/* Kinds of policy words: see oskhrein_open. The operand of all but a role and a set is 0. */
+/*
+ * Kinds of policy words: see oskhrein_open. The operand of all but a role and a set is 0. The number of a word's sides goes by its kind:
+ * below 4 none, below 6 one, else two.
+ */
 enum {
     OSKHREIN_KIND_EVERYONE = 1,
-    OSKHREIN_KIND_ROLE = 2,     /* operand: the role's number */
-    OSKHREIN_KIND_SET = 3,      /* operand: a mask of users, not zero, bit u for user u */
-    OSKHREIN_KIND_NOT = 4,      /* one side; no user without a role meets it */
-    OSKHREIN_KIND_PLUS = 5,     /* one side */
-    OSKHREIN_KIND_EITHER = 6,   /* two sides */
-    OSKHREIN_KIND_BOTH = 7,     /* two sides */
-    OSKHREIN_KIND_TOGETHER = 8, /* two sides */
-    OSKHREIN_KIND_APART = 9     /* two sides */
+    OSKHREIN_KIND_ROLE = 2, /* operand: the role's number */
+    OSKHREIN_KIND_SET = 3,  /* operand: a mask of users, not zero, bit u for user u */
+    OSKHREIN_KIND_NOT = 4,  /* no user without a role meets it */
+    OSKHREIN_KIND_PLUS = 5,
+    OSKHREIN_KIND_EITHER = 6,
+    OSKHREIN_KIND_BOTH = 7,
+    OSKHREIN_KIND_TOGETHER = 8,
+    OSKHREIN_KIND_APART = 9
 };
 
 /* Kinds of events: see oskhrein_event. */

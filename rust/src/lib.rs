@@ -17,17 +17,19 @@
 //! A policy is 1 to 31 words in prefix order: a word, then its sides. A [`Term`] makes them; the
 //! calls take any. The kind is in bits 24 to 31, the operand in bits 0 to 15, all else is zero.
 //!
-//! | kind | term | operand | sides |
-//! |---|---|---|---|
-//! | 1 | everyone | 0 | 0 |
-//! | 2 | role | role number | 0 |
-//! | 3 | set | mask of users, not zero | 0 |
-//! | 4 | not | 0 | 1 |
-//! | 5 | plus | 0 | 1 |
-//! | 6 | either | 0 | 2 |
-//! | 7 | both | 0 | 2 |
-//! | 8 | together | 0 | 2 |
-//! | 9 | apart | 0 | 2 |
+//! | kind | term | operand |
+//! |---|---|---|
+//! | 1 | everyone | 0 |
+//! | 2 | role | role number |
+//! | 3 | set | mask of users, not zero |
+//! | 4 | not | 0 |
+//! | 5 | plus | 0 |
+//! | 6 | either | 0 |
+//! | 7 | both | 0 |
+//! | 8 | together | 0 |
+//! | 9 | apart | 0 |
+//!
+//! The number of a word's sides goes by its kind: below 4 none, below 6 one, else two.
 //!
 //! The fault of a refused policy has a place among its words, which the [`Refusal`] tells.
 //!

@@ -3,18 +3,9 @@
 use crate::declared::Declared;
 use crate::tokens::PARTS;
 
-/// The kinds of policy words from kind 1 on: the name, and how many sides follow.
-const TERMS: [(&str, usize); 9] = [
-    ("everyone", 0),
-    ("role", 0),
-    ("set", 0),
-    ("not", 1),
-    ("plus", 1),
-    ("either", 2),
-    ("both", 2),
-    ("together", 2),
-    ("apart", 2),
-];
+/// The names of the kinds of policy words from kind 1 on.
+const TERMS: [&str; 9] =
+    ["everyone", "role", "set", "not", "plus", "either", "both", "together", "apart"];
 /// The names of the kinds of event words from kind 1 on.
 const EVENTS: [&str; 4] = ["act", "grant", "revoke", "close"];
 /// The other words that mean something in a text, or in what is printed of a run.
@@ -51,7 +42,7 @@ impl Counts {
 
 /// The kind of a policy word with this name.
 pub fn term_kind(name: &str) -> Option<u32> {
-    TERMS.iter().zip(1..).find(|((own, _), _)| *own == name).map(|(_, kind)| kind)
+    TERMS.iter().zip(1..).find(|(own, _)| **own == name).map(|(_, kind)| kind)
 }
 
 /// The kind of an event word with this name.
@@ -66,15 +57,20 @@ pub fn is_reserved(word: &str) -> bool {
     known || term_kind(word).is_some() || event_kind(word).is_some()
 }
 
-/// What the table has of a policy word's kind.
-fn term(word: u32) -> Option<(&'static str, usize)> {
+/// The name of a policy word's kind.
+fn term_name(word: u32) -> Option<&'static str> {
     let place = (word >> 24).checked_sub(1)?;
     TERMS.get(place as usize).copied()
 }
 
-/// How many sides follow a policy word; a word of an unknown kind has none.
+/// How many sides follow a policy word, by its kind: below 4 none, below 6 one, else two. A word of
+/// an unknown kind stands by itself in a text: it is refused whatever follows.
 pub fn sides(word: u32) -> usize {
-    term(word).map_or(0, |(_, sides)| sides)
+    match word >> 24 {
+        0..4 | 10.. => 0,
+        4..6 => 1,
+        6..10 => 2,
+    }
 }
 
 /// Whether the words are exactly one term: each word fills one open place and opens one a side.
@@ -108,12 +104,12 @@ pub fn members(mask: impl Into<u64>) -> String {
 /// A policy word by name, where a text may name it.
 pub fn term_word(word: u32, counts: Counts) -> String {
     let (kind, operand) = (word >> 24, word & 0x00ff_ffff);
-    match (term(word), kind) {
-        (Some((name, _)), ROLE) if counts.has_role(operand) => format!("{name} {operand}"),
-        (Some((name, _)), SET) if operand != 0 && counts.has_user(operand.ilog2()) => {
+    match (term_name(word), kind) {
+        (Some(name), ROLE) if counts.has_role(operand) => format!("{name} {operand}"),
+        (Some(name), SET) if operand != 0 && counts.has_user(operand.ilog2()) => {
             name.to_string() + &members(operand)
         }
-        (Some((name, _)), _) if operand == 0 && kind != ROLE && kind != SET => name.to_string(),
+        (Some(name), _) if operand == 0 && kind != ROLE && kind != SET => name.to_string(),
         _ => raw(word),
     }
 }
