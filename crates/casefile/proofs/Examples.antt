@@ -8,7 +8,7 @@ use Rattle.units.specs.Units.{metOf}
 use Rattle.workflow.specs.Permissions.{permissionRows}
 use Rattle.workflow.specs.Workflows.{noWorkflow, workflowOk, workflowOf}
 use Rattle.workflow.specs.Reading.{saysWorkflow, secureOk, secureOf, notGiven}
-use Rattle.instance.specs.Configurations.{configurationOk}
+use Rattle.configuration.specs.Configurations.{configurationOk}
 use Rattle.instance.specs.Instances.{instanceOk}
 use Rattle.instance.specs.Steps.{isAuthorized, leadsTo, isFinal}
 use Rattle.monitor.specs.Monitors.{openRefusals, fresh, opened, admission}

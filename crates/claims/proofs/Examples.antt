@@ -11,7 +11,7 @@ use Rattle.normal.specs.NormalForms.{normalWords, normalRefusals, normalOut}
 use Rattle.workflow.specs.Permissions.{permissionRows}
 use Rattle.workflow.specs.Workflows.{noWorkflow, workflowOk, workflowOf}
 use Rattle.workflow.specs.Reading.{saysWorkflow, secureOk, notGiven, secureOf}
-use Rattle.instance.specs.Configurations.{configurationOk}
+use Rattle.configuration.specs.Configurations.{configurationOk}
 use Rattle.instance.specs.Instances.{instanceOk}
 use Rattle.instance.specs.Steps.{isAuthorized, leadsTo, isFinal}
 use Rattle.monitor.specs.declared.Monitor.{Monitor}

@@ -35,12 +35,12 @@ use Rattle.policy.specs.Accepted.{IsPolicy}
 use Rattle.policy.proofs.Refusals.{clear}
 use Rattle.policy.proofs.Accepted.{decode-is-term}
 use Rattle.workflow.specs.Workflows.{transitionsOf, isGiven, isFinalState, workflowOf}
-use Rattle.instance.specs.declared.Configuration.{Configuration}
+use Rattle.configuration.specs.declared.Configuration.{Configuration}
 use Rattle.instance.specs.declared.Instance.{Instance}
 use Rattle.monitor.specs.declared.Monitor.{Monitor}
 use Rattle.monitor.specs.declared.Event.{Event}
 use Rattle.monitor.specs.declared.Event.the-variants.{Acts, Grants, Revokes, Closes, Malformed}
-use Rattle.instance.specs.Configurations.{assignment, held}
+use Rattle.configuration.specs.Configurations.{assignment, held}
 use Rattle.instance.specs.Instances.{policyOf, takenOf, term, hasWorkflow, isClosed, noted as notedAs, notedFor}
 use Rattle.instance.specs.Steps.{isAuthorized, leadsTo, stateOf, isFinal as isFinalHere}
 use Rattle.monitor.specs.Monitors.{Opening, policy, secure, openCode, fresh, opened, wellFormed}
@@ -48,7 +48,7 @@ use Rattle.monitor.specs.Events.{eventIn, ownRefusals, configured, advanced, ap
 use Rattle.monitor.specs.Laws.{Declared, Passed}
 use Rattle.monitor.specs.Runs.{Lengths, from, stepOf, run, final}
 use Rattle.monitor.proofs.Opening.{opened-is-fresh}
-use Rattle.instance.proofs.Formed.{one-each}
+use Rattle.configuration.proofs.Formed.{one-each}
 use Rattle.monitor.proofs.Formed.{opened-rows-ok, opened-is-policy, twelve-at-most}
 use Rattle.monitor.proofs.Reading.{declared}
 use Rattle.monitor.proofs.Order.{accepted-has-passed}

@@ -19,7 +19,7 @@ use Rattle.soda.proofs.Accuracy.{satisfied-is-users}
 use Rattle.policy.specs.Codes.{MALFORMED, FULL}
 use Rattle.policy.specs.Refusals.{Refusals, _gives_}
 use Rattle.policy.proofs.Refusals.{clear, clear-code, clear-front, clear-behind, code-behind}
-use Rattle.instance.specs.Configurations.{isZero}
+use Rattle.configuration.specs.Configurations.{isZero}
 use Rattle.monitor.specs.Monitors.{Opening, policy, openRefusals, openCode}
 use Rattle.multiset.specs.MultisetTest.{total, listed, notedBy, unordered, testRefusals, testCode, letterY, letterN, testOf}
 use Rattle.claims.specs.Accuracy.{Testable, Counted, TestIsMultiset}

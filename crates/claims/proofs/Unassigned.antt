@@ -21,8 +21,8 @@ use Rattle.policy.specs.Refusals.{Refusals, _gives_, code}
 use Rattle.policy.proofs.Refusals.{clear, clear-behind}
 use Rattle.units.specs.Units.{metOf}
 use Rattle.units.proofs.Units.{unassigned-meets-none}
-use Rattle.instance.specs.Configurations.{held}
-use Rattle.instance.specs.declared.Configuration.{Configuration}
+use Rattle.configuration.specs.Configurations.{held}
+use Rattle.configuration.specs.declared.Configuration.{Configuration}
 use Rattle.instance.specs.declared.Instance.{Instance}
 use Rattle.instance.specs.Instances.{policyOf, takenOf, term, hasWorkflow, isClosed, notedFor}
 use Rattle.instance.specs.Steps.{isAuthorized, leadsTo}

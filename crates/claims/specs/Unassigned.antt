@@ -12,7 +12,7 @@ use Rattle.soda.specs.Roles.{roles}
 use Rattle.soda.specs.Traces.{upd}
 use Rattle.policy.specs.Codes.{ACCEPTED, FULL, NOT-POSSIBLE, NOT-AUTHORIZED}
 use Rattle.policy.specs.Refusals.{Refusals, _gives_, code}
-use Rattle.instance.specs.Configurations.{held}
+use Rattle.configuration.specs.Configurations.{held}
 use Rattle.instance.specs.Instances.{hasWorkflow}
 use Rattle.monitor.specs.declared.Monitor.{Monitor}
 use Rattle.monitor.specs.declared.Event.the-variants.{Acts}

@@ -2,11 +2,10 @@
 use mathlib.Core.Path.{_≡_, refl}
 use mathlib.Core.Bool.{Bool, So, _&&_}
 use mathlib.Core.List.{List}
-use Prim.Native.Nat.{ℕ, _^_, _≤_}
+use Prim.Native.Nat.{ℕ, _≤_}
 use native.Mathlib.Numerals.{add-one}
-use native.Mathlib.Omega.{arith}
-use lib.Dec.{leb, ltb, eqb}
-use lib.ListN.{length, drop, length-take}
+use lib.Dec.{leb, eqb}
+use lib.ListN.{length, drop}
 use lib.Seq.{take-suc-set}
 use borrow.Author.Tests.{leb-true, le-leb, not-false}
 use Rattle.soda.specs.Lists.{all}
@@ -15,12 +14,12 @@ use Rattle.policy.specs.Refusals.{code, Clear}
 use Rattle.policy.specs.Words.{decode}
 use Rattle.policy.specs.Reading.{countOk, lengthOk, isTerm, isFormed, refusals, unitsOf}
 use Rattle.policy.proofs.Refusals.{clear}
-use Rattle.policy.proofs.Scanning.{length-range, counts-most}
-use Rattle.instance.specs.declared.Configuration.{Configuration}
+use Rattle.policy.proofs.Scanning.{length-range}
+use Rattle.configuration.specs.declared.Configuration.{Configuration}
 use Rattle.instance.specs.declared.Instance.{Instance}
-use Rattle.instance.specs.Configurations.{assignment, isZero, rowsOk, configurationOk}
+use Rattle.configuration.specs.Configurations.{isZero}
 use Rattle.instance.specs.Instances.{policyOf, takenOf, isIdle, actionOk, isReadable, isTakenOk, isTidy, isPlaced, instanceOk}
-use Rattle.instance.specs.Laws.{OneEach, TakenMore}
+use Rattle.instance.specs.Laws.{TakenMore}
 
 -- ── a policy that is read ──
 pub record PolicyOk (users roles : ℕ) (words : List ℕ) : Type 0 where
@@ -37,69 +36,8 @@ policy-ok users roles words k = record {
   formed = not-false _ (k .1 .1 .1 .1 .0);
 }
 
-pub count-most : (n : ℕ) → So (countOk n) → n ≤ 16
-count-most n h = leb-true n 16 (and-split (leb 1 n) (leb n 16) h .1)
-
-pub count-least : (n : ℕ) → So (countOk n) → 1 ≤ n
-count-least n h = leb-true 1 n (and-split (leb 1 n) (leb n 16) h .0)
-
 pub words-few : {users roles : ℕ} (words : List ℕ) → PolicyOk users roles words → length words ≤ 31
 words-few words r = length-range (length words) (r .long) .1
-
--- rows that are accepted
-pub one-each : OneEach
-one-each users roles rows h = so-eq (length rows) users (and-split (eqb (length rows) users) (all (λ r. ltb r (2 ^ roles)) rows) h .0)
-
--- ── a well-formed configuration ──
-pub record ConfigurationFormed (c : Configuration) : Type 0 where
-  pub counts : So (countOk (c .users) && countOk (c .roles))
-  pub rows-ok : So (rowsOk (c .users) (c .roles) (assignment c))
-  pub rows-zero : So (all isZero (drop (c .users) (c .«user_roles»)))
-  pub permissions-zero : So (all isZero (drop (c .roles) (c .permissions)))
-
-module _ (c : Configuration) where
-  abbrev counts-test : Bool
-  counts-test = countOk (c .users) && countOk (c .roles)
-
-  abbrev rows-test : Bool
-  rows-test = rowsOk (c .users) (c .roles) (assignment c)
-
-  abbrev users-test : Bool
-  users-test = all isZero (drop (c .users) (c .«user_roles»))
-
-  abbrev roles-test : Bool
-  roles-test = all isZero (drop (c .roles) (c .permissions))
-
-  abbrev zeros-test : Bool
-  zeros-test = users-test && roles-test
-
-  pub configuration-formed : So (configurationOk c) → ConfigurationFormed c
-  unfolding configurationOk
-  configuration-formed h =
-      let (n, r) = and-split counts-test (rows-test && zeros-test) h in
-      let (o, z) = and-split rows-test zeros-test r in
-      let (u, p) = and-split users-test roles-test z in
-      record { counts = n; rows-ok = o; rows-zero = u; permissions-zero = p }
-
-  pub is-configuration-formed : ConfigurationFormed c → So (configurationOk c)
-  unfolding configurationOk
-  is-configuration-formed f =
-      and-join counts-test (rows-test && zeros-test) (f .counts)
-      (and-join rows-test zeros-test (f .rows-ok) (and-join users-test roles-test (f .rows-zero) (f .permissions-zero)))
-
-  module _ (f : ConfigurationFormed c) where
-    pub users-most : c .users ≤ 16
-    users-most = counts-most (c .users) (c .roles) (f .counts) .0
-
-    pub users-least : 1 ≤ c .users
-    users-least = count-least (c .users) (and-split (countOk (c .users)) (countOk (c .roles)) (f .counts) .0)
-
-    pub roles-most : c .roles ≤ 16
-    roles-most = counts-most (c .users) (c .roles) (f .counts) .1
-
-    -- there is a row for each user
-    pub users-within : c .users ≤ length (c .«user_roles»)
-    users-within = omega (arith, one-each (c .users) (c .roles) (assignment c) (f .rows-ok), length-take (c .users) (c .«user_roles»))
 
 -- ── a well-formed instance over it ──
 pub record InstanceFormed (c : Configuration) (i : Instance) : Type 0 where

@@ -1,8 +1,4 @@
--- Vocabulary.
-pub mod Digits
-pub mod Loops
-pub mod Gathering
--- Surveys of a policy, and well-formed parts.
+-- Surveys of a policy, and well-formed instances.
 pub mod Checks
 pub mod Formed
 pub mod Stepping

@@ -10,9 +10,9 @@ use Rattle.soda.specs.declared.Successor.the-variants.{To, Nowhere}
 use Rattle.soda.proofs.Bools.{never, and-split, and-join, lt-so}
 use Rattle.workflow.specs.Workflows.{transitionsOf, workflowOk}
 use Rattle.workflow.proofs.Formed.{successor-is-declared}
-use Rattle.instance.specs.declared.Configuration.{Configuration}
+use Rattle.configuration.specs.declared.Configuration.{Configuration}
 use Rattle.instance.specs.declared.Instance.{Instance}
-use Rattle.instance.specs.Configurations.{isZero}
+use Rattle.configuration.specs.Configurations.{isZero}
 use Rattle.instance.specs.Instances.{hasWorkflow}
 use Rattle.instance.specs.Steps.{leadsTo, stateOf}
 use Rattle.instance.specs.Laws.{StepStaysPlaced}

@@ -10,7 +10,7 @@ use Rattle.soda.specs.declared.Successor.{Successor}
 use Rattle.soda.specs.declared.Successor.the-variants.{To, Nowhere}
 use Rattle.policy.specs.Codes.{NOT-AUTHORIZED, NO-TRANSITION}
 use Rattle.policy.specs.Refusals.{_gives_, code}
-use Rattle.instance.specs.declared.Configuration.{Configuration}
+use Rattle.configuration.specs.declared.Configuration.{Configuration}
 use Rattle.instance.specs.declared.Instance.{Instance}
 use Rattle.instance.specs.declared.Step.{Step}
 use Rattle.instance.specs.declared.Step.the-variants.{To as StepTo, Refused}

@@ -14,10 +14,10 @@ use Rattle.policy.specs.Reading.{refusals, unitsOf}
 use Rattle.units.specs.Units.{metOf}
 use Rattle.workflow.specs.declared.Workflow.{Workflow}
 use Rattle.workflow.specs.Workflows.{noWorkflow, isGiven, workflowOk}
-use Rattle.instance.specs.declared.Configuration.{Configuration}
+use Rattle.configuration.specs.declared.Configuration.{Configuration}
 use Rattle.instance.specs.declared.Instance.{Instance}
 use Rattle.instance.specs.declared.Check.{Check}
-use Rattle.instance.specs.Configurations.{held, isZero}
+use Rattle.configuration.specs.Configurations.{held, isZero}
 
 -- ── its parts ──
 abbrev pub policyOf : Instance → List ℕ

@@ -1,4 +1,3 @@
-pub mod Configurations
 pub mod Instances
 pub mod Steps
 pub mod Candidates

@@ -11,11 +11,11 @@ use Rattle.soda.specs.declared.Successor.the-variants.{To, Nowhere}
 use Rattle.policy.specs.Codes.{NOT-AUTHORIZED, NO-TRANSITION}
 use Rattle.policy.specs.Refusals.{Refusals, _gives_, code}
 use Rattle.workflow.specs.Workflows.{transitionsOf, isFinalState}
-use Rattle.instance.specs.declared.Configuration.{Configuration}
+use Rattle.configuration.specs.declared.Configuration.{Configuration}
 use Rattle.instance.specs.declared.Instance.{Instance}
 use Rattle.instance.specs.declared.Step.{Step}
 use Rattle.instance.specs.declared.Step.the-variants.{To as StepTo, Refused}
-use Rattle.instance.specs.Configurations.{held}
+use Rattle.configuration.specs.Configurations.{held}
 use Rattle.instance.specs.Instances.{hasWorkflow}
 
 -- a role that user u holds now gives action a

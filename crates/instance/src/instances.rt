@@ -7,11 +7,10 @@ ghost use lib.ListN.{length, take, drop};
 ghost use Rattle.soda.specs.Lists.{all};
 ghost use Rattle.instance.specs.Instances.{takenOf, isClosed, noInstance, instanceOf, withAction, asClosed, isIdle, actionOk, isTidy, isPlaced, checkOf};
 use super::Check;
-use super::Configuration;
 use super::Instance;
 use super::lists::padded_words;
-use super::lists::zero_permissions;
 use super::lists::zero_words;
+use configuration::Configuration;
 use soda::Action;
 use workflow::Workflow;
 
@@ -171,8 +170,7 @@ impl Instance {
         if self.state != 0 {
             return false;
         }
-        let permissions = configuration.permissions;
-        zero_permissions(permissions, 0)
+        configuration.gives_nothing()
     }
 
     // Whether the policy would be accepted, the taken actions and the workflow are as they must be, and what is unused is zero; and what a

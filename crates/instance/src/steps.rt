@@ -1,9 +1,9 @@
 // What permissions and workflow say to an action and to a close.
 ghost use mathlib.Core.Path.{_≡_};
 ghost use Rattle.instance.specs.Steps.{isAuthorized, leadsTo, stepOf, isFinal};
-use super::Configuration;
 use super::Instance;
 use super::Step;
+use configuration::Configuration;
 use policy::codes;
 use soda::Successor;
 

@@ -20,13 +20,14 @@ use Rattle.units.specs.Units.{metOf, metEach}
 use Rattle.units.proofs.Units.{each-is-met}
 use Rattle.workspace.specs.Workspace.{isFilled, filled}
 use Rattle.workspace.specs.Trials.{actionBy, canAct, Trials, trialsOf}
-use Rattle.instance.specs.declared.Configuration.{Configuration}
+use Rattle.configuration.specs.declared.Configuration.{Configuration}
 use Rattle.instance.specs.declared.Instance.{Instance}
-use Rattle.instance.specs.declared.Candidates.{Candidates}
+use Rattle.configuration.specs.declared.Candidates.{Candidates}
 use Rattle.instance.specs.Instances.{policyOf, takenOf, term, notedFor}
 use Rattle.instance.specs.Steps.{leadsTo}
-use Rattle.instance.specs.Candidates.{behindLast, gathered, isCandidate, candidatesOf}
-use Rattle.instance.proofs.Gathering.{behind-most, before-last, is-last, number-short, behind-short, number-and}
+use Rattle.configuration.specs.Permitted.{behindLast, gathered}
+use Rattle.instance.specs.Candidates.{isCandidate, candidatesOf}
+use Rattle.configuration.proofs.Gathering.{behind-most, before-last, is-last, number-short, behind-short, number-and}
 use Rattle.monitor.specs.Events.{tried}
 use Rattle.monitor.specs.Private.{eachTried}
 

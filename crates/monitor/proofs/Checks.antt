@@ -3,7 +3,7 @@ use mathlib.Core.Path.{_≡_, sym, ap, subst, _∙_}
 use mathlib.Core.Bool.{Bool, false, So}
 use Prim.Native.Nat.{ℕ}
 use Rattle.soda.proofs.Bools.{never}
-use Rattle.instance.specs.declared.Configuration.{Configuration}
+use Rattle.configuration.specs.declared.Configuration.{Configuration}
 use Rattle.instance.specs.declared.Instance.{Instance}
 use Rattle.instance.specs.declared.Check.{Check}
 use Rattle.instance.specs.Instances.{instanceOk, checkOf}

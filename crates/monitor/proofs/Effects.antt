@@ -13,18 +13,18 @@ use Rattle.soda.specs.declared.Action.{Action}
 use Rattle.soda.proofs.Bools.{eq-so}
 use Rattle.soda.proofs.Bits.{bit-setBit, bit-clearBit}
 use Rattle.policy.proofs.Refusals.{clear}
-use Rattle.instance.specs.declared.Configuration.{Configuration}
+use Rattle.configuration.specs.declared.Configuration.{Configuration}
 use Rattle.instance.specs.declared.Instance.{Instance}
 use Rattle.monitor.specs.declared.Event.{Event}
 use Rattle.monitor.specs.declared.Event.the-variants.{Acts, Grants, Revokes, Closes, Malformed}
-use Rattle.instance.specs.Configurations.{held, withRow, withGrant, withoutGrant}
+use Rattle.configuration.specs.Configurations.{held, withRow, withGrant, withoutGrant}
 use Rattle.instance.specs.Instances.{noAction, notedFor, withAction, asClosed}
 use Rattle.instance.specs.Steps.{leadsTo, stateOf}
 use Rattle.monitor.specs.Events.{eventIn, ownRefusals, applied, eventCode, outcome}
 use Rattle.monitor.specs.Laws.{Passed}
 use Rattle.monitor.specs.Effects.{ActionAlone, BitAlone, MarkAlone, OwnPart, AcceptedAltersItsPart, HeldAltersNothing, RefusalAltersNothing}
 use Rattle.monitor.specs.Private.{Entered}
-use Rattle.instance.proofs.Formed.{users-within}
+use Rattle.configuration.proofs.Formed.{users-within}
 use Rattle.monitor.proofs.Formed.{formed}
 use Rattle.monitor.proofs.Reading.{declared, entered}
 use Rattle.monitor.proofs.Order.{accepted-has-passed, workspace-kept}

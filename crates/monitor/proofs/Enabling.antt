@@ -19,13 +19,14 @@ use Rattle.policy.specs.Codes.{FULL, NOT-POSSIBLE, CLOSED, NOT-AUTHORIZED, NO-T
 use Rattle.policy.specs.Refusals.{code}
 use Rattle.workspace.specs.Workspace.{filled}
 use Rattle.workspace.specs.Trials.{Trials}
-use Rattle.instance.specs.declared.Configuration.{Configuration}
+use Rattle.configuration.specs.declared.Configuration.{Configuration}
 use Rattle.instance.specs.declared.Instance.{Instance}
 use Rattle.instance.specs.Instances.{term, isClosed}
 use Rattle.instance.specs.Steps.{isAuthorized, leadsTo}
-use Rattle.instance.specs.Candidates.{behindLast, isCandidate}
-use Rattle.instance.proofs.Formed.{users-most}
-use Rattle.instance.proofs.Gathering.{number-short}
+use Rattle.configuration.specs.Permitted.{behindLast}
+use Rattle.instance.specs.Candidates.{isCandidate}
+use Rattle.configuration.proofs.Formed.{users-most}
+use Rattle.configuration.proofs.Gathering.{number-short}
 use Rattle.monitor.specs.declared.Monitor.{Monitor}
 use Rattle.monitor.specs.declared.Event.{Event}
 use Rattle.monitor.specs.declared.Event.the-variants.{Acts, Malformed}

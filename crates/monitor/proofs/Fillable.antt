@@ -17,11 +17,12 @@ use Rattle.soda.proofs.Splits.{split-append, all-parts}
 use Rattle.policy.specs.Words.{decode}
 use Rattle.policy.specs.Reading.{lengthOk, isTerm, isFormed, unitsOf}
 use Rattle.workspace.specs.Workspace.{filled, isFillable, isFilled, fillOf}
-use Rattle.instance.specs.declared.Configuration.{Configuration}
+use Rattle.configuration.specs.declared.Configuration.{Configuration}
 use Rattle.instance.specs.declared.Instance.{Instance}
 use Rattle.instance.specs.Instances.{policyOf, takenOf, term, withAction, actionOk}
 use Rattle.monitor.specs.Private.{Fillable}
-use Rattle.instance.proofs.Formed.{ConfigurationFormed, InstanceFormed, formed-read, users-most, taken-more}
+use Rattle.configuration.proofs.Formed.{ConfigurationFormed, users-most}
+use Rattle.instance.proofs.Formed.{InstanceFormed, formed-read, taken-more}
 
 -- a user that the workspace has a bit for
 abbrev known : Action → Bool

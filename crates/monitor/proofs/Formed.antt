@@ -12,11 +12,12 @@ use Rattle.policy.proofs.Refusals.{clear, clear-code, clear-front, clear-behind
 use Rattle.policy.proofs.Accepted.{read-is-encode, decode-is-term}
 use Rattle.monitor.specs.declared.Monitor.{Monitor}
 use Rattle.workflow.specs.Reading.{secureOk}
-use Rattle.instance.specs.Configurations.{rowsOk, configurationOk}
+use Rattle.configuration.specs.Configurations.{rowsOk, configurationOk}
 use Rattle.instance.specs.Instances.{instanceOk}
 use Rattle.monitor.specs.Monitors.{Opening, openRefusals, openCode, wellFormed}
 use Rattle.monitor.specs.Laws.{OpenedIsPolicy, OpenedRowsOk, OpenedSecureOk, TwelveAtMost}
-use Rattle.instance.proofs.Formed.{PolicyOk, policy-ok, ConfigurationFormed, configuration-formed, is-configuration-formed, InstanceFormed, instance-formed, is-instance-formed}
+use Rattle.configuration.proofs.Formed.{ConfigurationFormed, configuration-formed, is-configuration-formed}
+use Rattle.instance.proofs.Formed.{PolicyOk, policy-ok, InstanceFormed, instance-formed, is-instance-formed}
 use Rattle.monitor.proofs.Opening.{policy-refusals, rows-refusal}
 
 -- ── an opening that is accepted ──

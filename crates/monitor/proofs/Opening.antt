@@ -19,7 +19,7 @@ use Rattle.policy.specs.declared.Code.the-variants.{Plain}
 use Rattle.policy.specs.declared.PolicyRead.{PolicyRead}
 use Rattle.policy.specs.declared.PolicyRead.the-variants.{Accepted, Refused}
 use Rattle.policy.proofs.Refusals.{clear, code-front, code-behind}
-use Rattle.instance.specs.Configurations.{rowsOk, rowRefusals, configurationOf, givenConfiguration}
+use Rattle.configuration.specs.Configurations.{rowsOk, rowRefusals, configurationOf, givenConfiguration}
 use Rattle.workflow.specs.Reading.{secureOk}
 use Rattle.monitor.specs.Monitors.{Opening, codeIn, blank, secureRefusals, openRefusals, openCode, fresh, opened, opening}
 use Rattle.monitor.specs.Laws.{OpenedIsFresh}

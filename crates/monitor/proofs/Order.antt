@@ -13,7 +13,7 @@ use Rattle.soda.proofs.Bools.{never, and-split}
 use Rattle.policy.specs.Codes.{ACCEPTED, FULL, NOT-POSSIBLE, NOT-SATISFIED}
 use Rattle.policy.specs.Refusals.{code, Refusals, numbered, Clear}
 use Rattle.policy.proofs.Refusals.{clear-code, code-front, code-behind}
-use Rattle.instance.specs.declared.Configuration.{Configuration}
+use Rattle.configuration.specs.declared.Configuration.{Configuration}
 use Rattle.instance.specs.declared.Instance.{Instance}
 use Rattle.monitor.specs.declared.Monitor.{Monitor}
 use Rattle.monitor.specs.declared.Event.{Event}

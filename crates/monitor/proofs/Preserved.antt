@@ -24,7 +24,7 @@ use Rattle.policy.specs.Words.{decode}
 use Rattle.policy.specs.Reading.{lengthOk, unitsOf}
 use Rattle.units.specs.Units.{metIn, metOf}
 use Rattle.policy.proofs.Refusals.{clear, clear-code}
-use Rattle.instance.specs.declared.Configuration.{Configuration}
+use Rattle.configuration.specs.declared.Configuration.{Configuration}
 use Rattle.instance.specs.declared.Instance.{Instance}
 use Rattle.monitor.specs.declared.Event.{Event}
 use Rattle.monitor.specs.declared.Event.the-variants.{Acts, Grants, Revokes, Closes, Malformed}
@@ -32,7 +32,7 @@ use Rattle.workflow.specs.declared.Workflow.{Workflow}
 use Rattle.workflow.specs.Workflows.{isGiven, workflowOk}
 use Rattle.workflow.specs.Laws.{Read}
 use Rattle.workflow.proofs.Formed.{read-is-formed}
-use Rattle.instance.specs.Configurations.{assignment, held, withPermissions, withRow, isZero, configurationOf}
+use Rattle.configuration.specs.Configurations.{assignment, held, withPermissions, withRow, isZero, configurationOf}
 use Rattle.instance.specs.Instances.{policyOf, takenOf, notedFor, withAction, instanceOf, actionOk, isIdle, noAction, isPlaced}
 use Rattle.instance.specs.Steps.{leadsTo, stateOf}
 use Rattle.monitor.specs.Monitors.{Opening, secure, openCode, fresh}
@@ -40,12 +40,13 @@ use Rattle.monitor.specs.Events.{eventIn, ownRefusals, applied, outcome}
 use Rattle.monitor.specs.Laws.{Passed}
 use Rattle.monitor.specs.Effects.{OpenedIsWellFormed, AcceptedStaysWellFormed, EventKeepsWellFormed}
 use Rattle.monitor.specs.Private.{Entered}
-use Rattle.instance.proofs.Digits.{or-is-set, sub-is-clear}
-use Rattle.instance.proofs.Gathering.{number-and}
+use Rattle.configuration.proofs.Digits.{or-is-set, sub-is-clear}
+use Rattle.configuration.proofs.Gathering.{number-and}
 use Rattle.instance.proofs.Placing.{step-stays-placed}
 use Rattle.monitor.proofs.Reading.{declared, entered}
 use Rattle.monitor.proofs.Order.{accepted-has-passed}
-use Rattle.instance.proofs.Formed.{ConfigurationFormed, InstanceFormed, words-few, one-each}
+use Rattle.configuration.proofs.Formed.{ConfigurationFormed, one-each}
+use Rattle.instance.proofs.Formed.{InstanceFormed, words-few}
 use Rattle.monitor.proofs.Formed.{Formed, formed, is-formed, opens-clear, opens-read, opened-rows-ok}
 use Rattle.monitor.proofs.Opening.{policy-refusals}
 use Rattle.instance.proofs.Formed.{taken-more}

@@ -5,7 +5,7 @@ use Prim.Native.Nat.{ℕ, _/_, _%_, _^_, _<_}
 use lib.Dec.{ltb, eqb}
 use Rattle.soda.proofs.Bools.{and-split, so-lt}
 use Rattle.policy.specs.Kinds.{ACTION, GRANT, REVOKE, CLOSE}
-use Rattle.instance.specs.declared.Configuration.{Configuration}
+use Rattle.configuration.specs.declared.Configuration.{Configuration}
 use Rattle.monitor.specs.declared.Event.{Event}
 use Rattle.monitor.specs.declared.Event.the-variants.{Acts, Grants, Revokes, Closes, Malformed}
 use Rattle.monitor.specs.Events.{eventOf, readEvent, isMalformed}

@@ -8,12 +8,12 @@ use lib.ListN.{length, getD}
 use Rattle.soda.specs.Roles.{assigned}
 use Rattle.soda.specs.declared.Action.{Action}
 use Rattle.policy.specs.Codes.{NOT-POSSIBLE, NOT-SATISFIED}
-use Rattle.instance.specs.declared.Configuration.{Configuration}
+use Rattle.configuration.specs.declared.Configuration.{Configuration}
 use Rattle.instance.specs.declared.Instance.{Instance}
 use Rattle.monitor.specs.declared.Monitor.{Monitor}
 use Rattle.monitor.specs.declared.Event.{Event}
 use Rattle.monitor.specs.declared.Event.the-variants.{Acts, Grants, Revokes, Closes, Malformed}
-use Rattle.instance.specs.Configurations.{held}
+use Rattle.configuration.specs.Configurations.{held}
 use Rattle.instance.specs.Instances.{isClosed, noAction, notedFor}
 use Rattle.instance.specs.Steps.{leadsTo, stateOf}
 use Rattle.monitor.specs.Monitors.{Opening, openCode, fresh, wellFormed}

@@ -12,7 +12,7 @@ use Rattle.policy.specs.Codes.{NOT-AUTHORIZED, NO-TRANSITION}
 use Rattle.policy.specs.Kinds.{ACTION}
 use Rattle.policy.specs.Refusals.{code}
 use Rattle.instance.specs.Instances.{isClosed}
-use Rattle.instance.specs.Candidates.{behindLast}
+use Rattle.configuration.specs.Permitted.{behindLast}
 use Rattle.monitor.specs.declared.Monitor.{Monitor}
 use Rattle.monitor.specs.declared.Enabled.{Enabled}
 use Rattle.monitor.specs.declared.Enabled.the-variants.{Users, Refused}

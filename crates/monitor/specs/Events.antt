@@ -10,12 +10,12 @@ use Rattle.policy.specs.Codes.{ACCEPTED, MALFORMED, FULL, NOT-POSSIBLE, CLOSED,
 use Rattle.policy.specs.Kinds.{ACTION, GRANT, REVOKE, CLOSE}
 use Rattle.policy.specs.Refusals.{_gives_, code}
 use Rattle.workspace.specs.Workspace.{filled}
-use Rattle.instance.specs.declared.Configuration.{Configuration}
+use Rattle.configuration.specs.declared.Configuration.{Configuration}
 use Rattle.instance.specs.declared.Instance.{Instance}
 use Rattle.monitor.specs.declared.Monitor.{Monitor}
 use Rattle.monitor.specs.declared.Event.{Event}
 use Rattle.monitor.specs.declared.Event.the-variants.{Acts, Grants, Revokes, Closes, Malformed}
-use Rattle.instance.specs.Configurations.{withGrant, withoutGrant}
+use Rattle.configuration.specs.Configurations.{withGrant, withoutGrant}
 use Rattle.instance.specs.Instances.{takenOf, term, isClosed, notedFor, withAction, asClosed}
 use Rattle.instance.specs.Steps.{leadsTo, stepRefusals, stateOf, isFinal}
 use Rattle.monitor.specs.Monitors.{admission}

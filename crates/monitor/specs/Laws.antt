@@ -11,8 +11,8 @@ use Rattle.monitor.specs.declared.Monitor.{Monitor}
 use Rattle.monitor.specs.declared.Event.{Event}
 use Rattle.monitor.specs.declared.Event.the-variants.{Acts, Grants, Revokes, Closes, Malformed}
 use Rattle.workflow.specs.Reading.{secureOk}
-use Rattle.instance.specs.Configurations.{rowsOk}
-use Rattle.instance.specs.declared.Configuration.{Configuration}
+use Rattle.configuration.specs.Configurations.{rowsOk}
+use Rattle.configuration.specs.declared.Configuration.{Configuration}
 use Rattle.instance.specs.declared.Instance.{Instance}
 use Rattle.instance.specs.Instances.{takenOf, term, hasWorkflow, isClosed}
 use Rattle.monitor.specs.Monitors.{Opening, policy, openCode, fresh, opened, wellFormed, admission}

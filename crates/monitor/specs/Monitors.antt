@@ -14,7 +14,7 @@ use Rattle.workflow.specs.declared.SecureWorkflow.{SecureWorkflow}
 use Rattle.workflow.specs.Reading.{secureOk, secureOf}
 use Rattle.monitor.specs.declared.Monitor.{Monitor}
 use Rattle.monitor.specs.declared.Opened.{Opened}
-use Rattle.instance.specs.Configurations.{noConfiguration, configurationOf, withPermissions, rowRefusals, configurationOk}
+use Rattle.configuration.specs.Configurations.{noConfiguration, configurationOf, withPermissions, rowRefusals, configurationOk}
 use Rattle.instance.specs.Instances.{noInstance, instanceOf, instanceOk}
 
 -- ── opening ──

@@ -12,7 +12,7 @@ use Rattle.policy.specs.Refusals.{code}
 use Rattle.units.specs.Units.{metOf}
 use Rattle.workspace.specs.Workspace.{filled, isFilled}
 use Rattle.workspace.specs.Trials.{Trials}
-use Rattle.instance.specs.declared.Configuration.{Configuration}
+use Rattle.configuration.specs.declared.Configuration.{Configuration}
 use Rattle.instance.specs.declared.Instance.{Instance}
 use Rattle.monitor.specs.declared.Monitor.{Monitor}
 use Rattle.monitor.specs.declared.Event.{Event}
@@ -21,7 +21,7 @@ use Rattle.instance.specs.declared.Check.{Check}
 use Rattle.instance.specs.declared.Step.{Step}
 use Rattle.instance.specs.declared.Step.the-variants.{To, Refused}
 use Rattle.monitor.specs.declared.monitors.Admission.{Admission}
-use Rattle.instance.specs.Configurations.{held, configurationOk}
+use Rattle.configuration.specs.Configurations.{held, configurationOk}
 use Rattle.monitor.specs.Monitors.{admission}
 use Rattle.instance.specs.Instances.{policyOf, takenOf, term, notedFor, withAction, instanceOk}
 use Rattle.instance.specs.Candidates.{isCandidate, candidatesOf}

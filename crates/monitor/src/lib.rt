@@ -5,7 +5,7 @@ mod monitors;
 mod steps;
 mod trials;
 
-use instance::Configuration;
+use configuration::Configuration;
 use instance::Instance;
 use policy::Code;
 

@@ -4,8 +4,8 @@ ghost use Rattle.monitor.specs.Monitors.{given, blank, opening, wellForm
 ghost use Rattle.monitor.specs.Private.{Checked, Admits};
 use super::Monitor;
 use super::Opened;
+use configuration::Configuration;
 use instance::Check;
-use instance::Configuration;
 use instance::Instance;
 use policy::Code;
 use policy::PolicyRead;

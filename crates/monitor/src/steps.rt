@@ -10,7 +10,7 @@ use super::Event;
 use super::Monitor;
 use super::evaluation::evaluate;
 use super::events::read_event;
-use instance::Configuration;
+use configuration::Configuration;
 use instance::Instance;
 use instance::Step;
 use policy::codes;

@@ -4,7 +4,7 @@ ghost use Rattle.monitor.specs.Enabled.{enabledOf};
 ghost use Rattle.monitor.specs.Private.{Admitted, eachTried};
 use super::Enabled;
 use super::Monitor;
-use instance::Configuration;
+use configuration::Configuration;
 use instance::Instance;
 use policy::codes;
 

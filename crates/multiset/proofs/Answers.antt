@@ -22,9 +22,9 @@ use Rattle.policy.proofs.Scanning.{counts-most}
 use Rattle.policy.proofs.Places.{others-have-none}
 use Rattle.workspace.specs.Workspace.{filled}
 use Rattle.workspace.proofs.Fillable.{policy-is-filled}
-use Rattle.instance.specs.Configurations.{isZero}
+use Rattle.configuration.specs.Configurations.{isZero}
 use Rattle.monitor.specs.Monitors.{Opening, policy, openRefusals, openCode, codeIn}
-use Rattle.instance.proofs.Formed.{one-each}
+use Rattle.configuration.proofs.Formed.{one-each}
 use Rattle.monitor.proofs.Formed.{opened-rows-ok, opened-is-policy}
 use Rattle.multiset.specs.MultisetTest.{verdictCode, verdictLetter, total, listed, notedBy, unordered, testRefusals, testCode, testOf, Numbered}
 use Rattle.multiset.specs.Private.{Counted, used, Holds, Fillable}

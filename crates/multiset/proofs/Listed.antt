@@ -11,7 +11,7 @@ use borrow.Author.Tests.{ne-eqb}
 use Rattle.soda.specs.Lists.{all}
 use Rattle.soda.proofs.Bools.{lt-so}
 use Rattle.soda.proofs.Splits.{split-append, all-parts, all-replicate}
-use Rattle.instance.specs.Configurations.{isZero}
+use Rattle.configuration.specs.Configurations.{isZero}
 use Rattle.multiset.specs.MultisetTest.{total, listed}
 
 pub listed-length : (u : ℕ) (l : List ℕ) → length (listed u l) ≡ total l

@@ -15,7 +15,7 @@ use Rattle.policy.specs.Refusals.{_gives_, code}
 use Rattle.policy.specs.declared.Code.{Code}
 use Rattle.policy.specs.declared.Code.the-variants.{Plain}
 use Rattle.workspace.specs.Workspace.{filled}
-use Rattle.instance.specs.Configurations.{isZero}
+use Rattle.configuration.specs.Configurations.{isZero}
 use Rattle.instance.specs.Instances.{noted}
 use Rattle.monitor.specs.Monitors.{Opening, bare, policy, openRefusals, codeIn}
 use Rattle.multiset.specs.declared.Verdict.{Verdict}

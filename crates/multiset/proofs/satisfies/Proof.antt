@@ -16,7 +16,7 @@ use Rattle.policy.specs.Codes.{MALFORMED, FULL, WORKSPACE}
 use Rattle.policy.specs.Faults.{codeNumber}
 use Rattle.policy.proofs.Places.{code-has-number}
 use Rattle.workspace.specs.Workspace.{filled}
-use Rattle.instance.specs.Configurations.{isZero}
+use Rattle.configuration.specs.Configurations.{isZero}
 use Rattle.monitor.specs.Monitors.{Opening, bare, policy, openCode, codeIn}
 use Rattle.multiset.specs.MultisetTest.{total, listed, notedBy, testRefusals, testCode}
 use Rattle.multiset.proofs.Listed.{total-zero}

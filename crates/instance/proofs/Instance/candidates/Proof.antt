@@ -9,12 +9,13 @@ use Rattle.soda.specs.Lists.{range}
 use Rattle.soda.specs.Workflows.{isSomewhere}
 use Rattle.soda.specs.declared.Successor.{Successor}
 use Rattle.soda.specs.declared.Successor.the-variants.{To, Nowhere}
-use Rattle.instance.specs.declared.Configuration.{Configuration}
+use Rattle.configuration.specs.declared.Configuration.{Configuration}
 use Rattle.instance.specs.declared.Instance.{Instance}
-use Rattle.instance.specs.declared.Candidates.{Candidates}
+use Rattle.configuration.specs.declared.Candidates.{Candidates}
 use Rattle.instance.specs.Instances.{hasWorkflow}
 use Rattle.instance.specs.Steps.{isAuthorized, leadsTo}
-use Rattle.instance.specs.Candidates.{gathered, noCandidates, permittedUsers, candidatesOf}
+use Rattle.configuration.specs.Permitted.{gathered, noCandidates, permittedUsers}
+use Rattle.instance.specs.Candidates.{candidatesOf}
 use Rattle.instance.proofs.Instance.candidates.Statement.{statement}
 use Rattle.instance.proofs.Instance.candidates.Tie as tie
 

@@ -12,9 +12,9 @@ use Rattle.policy.specs.Refusals.{code}
 use Rattle.policy.specs.Words.{decode}
 use Rattle.policy.specs.Reading.{refusals, unitsOf}
 use Rattle.units.specs.Units.{metOf}
-use Rattle.instance.specs.declared.Configuration.{Configuration}
+use Rattle.configuration.specs.declared.Configuration.{Configuration}
 use Rattle.instance.specs.declared.Instance.{Instance}
-use Rattle.instance.specs.Configurations.{held}
+use Rattle.configuration.specs.Configurations.{held}
 use Rattle.instance.specs.Instances.{policyOf, isTakenOk, isTidy, instanceOk}
 use Rattle.soda.proofs.Results.{failed, passed}
 use Rattle.instance.proofs.Checks.{survey-accepted, survey-units, survey-met}

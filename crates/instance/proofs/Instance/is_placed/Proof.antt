@@ -41,14 +41,14 @@ returns-3 c =
     let e = c .before .before in
     rw (formed (e .before .before), not-given e, ne-eqb _ _ (c .if3 .taken))
 
-zero-permissions-requires : tie.Need-zero-permissions-requires
-zero-permissions-requires c κs = search needs
+gives-nothing-requires : tie.Need-gives-nothing-requires
+gives-nothing-requires c κs = search needs
 
 returns-4 : tie.Need-returns-4
 returns-4 c =
-    let z = c .before .before in
+    let z = c .before in
     let e = z .before .before in
-    rw (formed (e .before .before), not-given e, eq-eqb _ _ (z .if3 .left)) (c .zero-permissions .ensures)
+    rw (formed (e .before .before), not-given e, eq-eqb _ _ (z .if3 .left)) (c .gives-nothing .ensures)
 
 pub is-placed-spec : {M : Type 1} → statement M
 is-placed-spec =
@@ -60,5 +60,5 @@ is-placed-spec =
     cast-result
     returns-2
     returns-3
-    zero-permissions-requires
+    gives-nothing-requires
     returns-4)

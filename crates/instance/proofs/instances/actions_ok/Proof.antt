@@ -11,7 +11,7 @@ use Rattle.soda.specs.Lists.{all}
 use Rattle.soda.specs.declared.Action.{Action}
 use Rattle.instance.specs.Instances.{noAction, actionOk}
 use Rattle.soda.proofs.Results.{failed, passed}
-use Rattle.instance.proofs.Loops.{all-stop, all-more, all-end}
+use Rattle.configuration.proofs.Loops.{all-stop, all-more, all-end}
 use Rattle.instance.proofs.instances.actions_ok.Statement.{statement}
 use Rattle.instance.proofs.instances.actions_ok.Tie as tie
 

@@ -6,7 +6,7 @@ use native.Mathlib.Omega.{arith}
 use borrow.Author.Needs.{needs}
 use lib.ListN.{drop}
 use Rattle.soda.specs.Lists.{all}
-use Rattle.instance.specs.Configurations.{isZero}
+use Rattle.configuration.specs.Configurations.{isZero}
 use Rattle.soda.proofs.Loops.{every-turn, every-end}
 use Rattle.instance.proofs.lists.zero_words.Statement.{statement}
 use Rattle.instance.proofs.lists.zero_words.Tie as tie

@@ -1,7 +1,7 @@
 -- The two parts, one after the other.
 use borrow.Author.Needs.{needs}
 use Rattle.soda.proofs.Bools.{and-split}
-use Rattle.instance.specs.Configurations.{configurationOk}
+use Rattle.configuration.specs.Configurations.{configurationOk}
 use Rattle.instance.specs.Instances.{instanceOk}
 use Rattle.monitor.specs.Monitors.{wellFormed}
 use Rattle.soda.proofs.Results.{failed, passed}

@@ -5,7 +5,7 @@ use borrow.Author.Needs.{needs}
 use lib.ListN.{length}
 use Rattle.soda.proofs.Bools.{and-split}
 use Rattle.policy.specs.Refusals.{code}
-use Rattle.instance.specs.Configurations.{configurationOk}
+use Rattle.configuration.specs.Configurations.{configurationOk}
 use Rattle.instance.specs.Instances.{instanceOk}
 use Rattle.monitor.specs.Monitors.{admission}
 use Rattle.monitor.proofs.Order.{admits}

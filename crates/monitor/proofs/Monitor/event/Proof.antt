@@ -8,7 +8,8 @@ use Rattle.monitor.specs.declared.Event.{Event}
 use Rattle.monitor.specs.Monitors.{admission}
 use Rattle.monitor.specs.Events.{eventIn, entry}
 use Rattle.monitor.specs.Private.{Meets, Noting, monitorOutcome}
-use Rattle.instance.proofs.Formed.{is-configuration-formed, is-instance-formed}
+use Rattle.configuration.proofs.Formed.{is-configuration-formed}
+use Rattle.instance.proofs.Formed.{is-instance-formed}
 use Rattle.monitor.proofs.Formed.{formed}
 use Rattle.monitor.proofs.Checks.{noting}
 use Rattle.monitor.proofs.Reading.{declared, entered}

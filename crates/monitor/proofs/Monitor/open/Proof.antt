@@ -18,9 +18,9 @@ use Rattle.policy.specs.declared.PolicyRead.the-variants.{Refused}
 use Rattle.workflow.specs.declared.SecureWorkflow.{SecureWorkflow}
 use Rattle.workflow.specs.Reading.{secureOk}
 use Rattle.workflow.proofs.Formed.{read-is-formed}
-use Rattle.instance.specs.declared.Configuration.{Configuration}
-use Rattle.instance.specs.declared.Configured.{Configured}
-use Rattle.instance.specs.Configurations.{withPermissions, givenConfiguration}
+use Rattle.configuration.specs.declared.Configuration.{Configuration}
+use Rattle.configuration.specs.declared.Configured.{Configured}
+use Rattle.configuration.specs.Configurations.{withPermissions, givenConfiguration}
 use Rattle.instance.specs.Instances.{noInstance, instanceOf}
 use Rattle.soda.proofs.Results.{failed, passed}
 use Rattle.instance.proofs.Formed.{policy-ok, words-few}

@@ -5,7 +5,8 @@ use borrow.Author.Needs.{needs}
 use Rattle.soda.specs.Tables.{satisfied}
 use Rattle.instance.specs.Instances.{takenOf, term}
 use Rattle.soda.proofs.Results.{failed, passed}
-use Rattle.instance.proofs.Formed.{configuration-formed, instance-formed}
+use Rattle.configuration.proofs.Formed.{configuration-formed}
+use Rattle.instance.proofs.Formed.{instance-formed}
 use Rattle.monitor.proofs.Order.{closes-not-satisfied, closes-not-final, closes}
 use Rattle.monitor.proofs.Fillable.{fillable-formed}
 use Rattle.monitor.proofs.steps.close.Statement.{statement}

@@ -9,7 +9,7 @@ use lib.Dec.{ltb}
 use Rattle.monitor.specs.declared.Event.{Event}
 use Rattle.monitor.specs.declared.Event.the-variants.{Acts, Grants, Revokes, Closes, Malformed}
 use Rattle.monitor.specs.Private.{Entered, Noting, monitorOutcome}
-use Rattle.instance.proofs.Formed.{configuration-formed, roles-most}
+use Rattle.configuration.proofs.Formed.{configuration-formed, roles-most}
 use Rattle.monitor.proofs.Order.{lifted}
 use Rattle.monitor.proofs.steps.perform.Statement.{statement}
 use Rattle.monitor.proofs.steps.perform.Tie as tie

@@ -12,7 +12,8 @@ use Rattle.workspace.specs.Workspace.{filled}
 use Rattle.instance.specs.declared.Instance.{Instance}
 use Rattle.instance.specs.Instances.{term, takenOf, notedFor, withAction}
 use Rattle.soda.proofs.Lists.{length-mapped}
-use Rattle.instance.proofs.Formed.{ConfigurationFormed, InstanceFormed, configuration-formed, instance-formed}
+use Rattle.configuration.proofs.Formed.{ConfigurationFormed, configuration-formed}
+use Rattle.instance.proofs.Formed.{InstanceFormed, instance-formed}
 use Rattle.instance.proofs.Formed.{taken-more}
 use Rattle.monitor.proofs.Fillable.{fillable-more}
 use Rattle.monitor.proofs.steps.try_action.Statement.{statement}

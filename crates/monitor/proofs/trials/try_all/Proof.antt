@@ -5,7 +5,8 @@ use native.Mathlib.Omega.{arith}
 use borrow.Author.Needs.{needs}
 use lib.ListN.{length}
 use lib.Seq.{length-take-le}
-use Rattle.instance.proofs.Formed.{ConfigurationFormed, configuration-formed, InstanceFormed, instance-formed, users-most}
+use Rattle.configuration.proofs.Formed.{ConfigurationFormed, configuration-formed, users-most}
+use Rattle.instance.proofs.Formed.{InstanceFormed, instance-formed}
 use Rattle.monitor.proofs.Fillable.{fillable-formed}
 use Rattle.monitor.proofs.Candidates.{found-few, found-tried}
 use Rattle.monitor.proofs.trials.try_all.Statement.{statement}
