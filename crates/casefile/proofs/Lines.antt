@@ -5,7 +5,7 @@ use Prim.Native.Nat.{ℕ, suc, _+_, _*_, _≤_}
 use native.Mathlib.Omega.{arith}
 use lib.ListN.{length, length-append}
 use Rattle.monitor.specs.declared.Monitor.{Monitor}
-use Rattle.monitor.specs.Events.{eventIn, eventCode, eventMonitor}
+use Rattle.monitor.specs.Events.{isShort, eventIn, eventCode, eventMonitor}
 use Rattle.monitor.specs.Statuses.{statusLetter}
 use Rattle.monitor.specs.Runs.{run, final}
 use Rattle.casefile.specs.Cases.{wide, wides}
@@ -16,7 +16,7 @@ use Rattle.casefile.proofs.Refusing.{event-below}
 
 -- the line of an event at a place, and the monitor that events leave
 abbrev pub lineOf : Monitor → ℕ → ℕ → List ℕ
-lineOf m place w = lineText place (eventCode m w 8192) (statusLetter (eventMonitor m w 8192) 8192)
+lineOf m place w = lineText place (eventCode m w 8192) (statusLetter (eventMonitor m w 8192))
 
 abbrev pub linesOf : Monitor → ℕ → List ℕ → List ℕ
 linesOf m p ws = stepLines p (caseRun m ws)
@@ -40,8 +40,8 @@ lines-next m p (v ∷ ws) w =
 
 pub line-short : (m : Monitor) (place w : ℕ) → length (lineOf m place w) ≤ 9
 line-short m place w =
-    let k = event-below m (eventIn m w) 8192 in
-    line-length place (eventCode m w 8192) (statusLetter (eventMonitor m w 8192) 8192) (omega arith)
+    let k = event-below m (eventIn m w) (isShort w 8192) in
+    line-length place (eventCode m w 8192) (statusLetter (eventMonitor m w 8192)) (omega arith)
 
 lines-short : (m : Monitor) (p : ℕ) (ws : List ℕ) → length (linesOf m p ws) ≤ 9 * length ws
 unfolding run stepLines

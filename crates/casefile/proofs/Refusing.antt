@@ -24,10 +24,10 @@ code-below n (r ∷ l) z h =
     go true x y = x
     go false x y = y
 
-pub event-below : (m : Monitor) (e : Event) (n : ℕ) → code (eventRefusals m e n) < 18
+pub event-below : (m : Monitor) (e : Event) (short : Bool) → code (eventRefusals m e short) < 18
 unfolding eventRefusals admission
-event-below m (Acts u a) n = code-below 18 (eventRefusals m (Acts u a) n) (lit< tt) refl
-event-below m (Grants u r) n = code-below 18 (eventRefusals m (Grants u r) n) (lit< tt) refl
-event-below m (Revokes u r) n = code-below 18 (eventRefusals m (Revokes u r) n) (lit< tt) refl
-event-below m Closes n = code-below 18 (eventRefusals m Closes n) (lit< tt) refl
-event-below m Malformed n = code-below 18 (eventRefusals m Malformed n) (lit< tt) refl
+event-below m (Acts u a) short = code-below 18 (eventRefusals m (Acts u a) short) (lit< tt) refl
+event-below m (Grants u r) short = code-below 18 (eventRefusals m (Grants u r) short) (lit< tt) refl
+event-below m (Revokes u r) short = code-below 18 (eventRefusals m (Revokes u r) short) (lit< tt) refl
+event-below m Closes short = code-below 18 (eventRefusals m Closes short) (lit< tt) refl
+event-below m Malformed short = code-below 18 (eventRefusals m Malformed short) (lit< tt) refl

@@ -36,7 +36,7 @@ unfolding run
 all-taken m [] n = omega arith
 all-taken m (w ∷ ws) n =
     let more = one-more m (eventIn m w) (eqb (eventCode m w (n 0)) 0) in
-    let rest = all-taken (eventMonitor m w (n 0)) ws (from 2 n) in
+    let rest = all-taken (eventMonitor m w (n 0)) ws (from 1 n) in
     omega (arith, more, rest)
 
 pub taken-is-final : TakenIsFinal

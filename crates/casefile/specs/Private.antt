@@ -36,7 +36,7 @@ pub record CanStep (m : Monitor) (workspace out : List ℕ) (at : ℕ) : Type 0 
 pub record Stepped (m : Monitor) (w place : ℕ) (out : List ℕ) (at : ℕ) (l : Monitor) (next : ℕ) (left : List ℕ) : Type 0 where
   pub same : l ≡ eventMonitor m w 8192
   pub isFormed : So (wellFormed l)
-  pub line : Put out at (lineText place (eventCode m w 8192) (statusLetter (eventMonitor m w 8192) 8192)) next left
+  pub line : Put out at (lineText place (eventCode m w 8192) (statusLetter (eventMonitor m w 8192))) next left
 
 -- a run of a case's events, on an opened monitor
 pub record CanRun (m : Monitor) (bytes out : List ℕ) : Type 0 where

@@ -45,7 +45,7 @@ fn step(
 {
     let answer = monitor.event(word, workspace);
     let next = answer.monitor;
-    let status = next.status(workspace);
+    let status = next.status();
     let end = put_line(out, at, place, answer.code, letter_of(status));
     Left {
         monitor: next,

@@ -25,11 +25,11 @@ use Rattle.policy.specs.Codes.{ACCEPTED, MALFORMED, FULL, NOT-POSSIBLE, CLOSED,
 use Rattle.monitor.specs.declared.Event.{Event}
 use Rattle.monitor.specs.declared.Event.the-variants.{Acts, Grants, Revokes, Closes, Malformed}
 use Rattle.monitor.specs.Monitors.{Opening, policy, opened}
-use Rattle.monitor.specs.Events.{isMalformed, eventCode}
-use Rattle.monitor.specs.Statuses.{letterD, letterC, letterO}
+use Rattle.monitor.specs.Events.{isMalformed, isShort, eventCode}
+use Rattle.instance.specs.Letters.{letterD, letterC, letterO}
 use Rattle.monitor.specs.Runs.{isAction}
 use Rattle.monitor.specs.Laws.{Declared}
-use Rattle.monitor.proofs.Reading.{declared}
+use Rattle.monitor.proofs.Reading.{declared, Asks, asks}
 use Rattle.claims.specs.Runs.{symbolOf}
 use Rattle.claims.specs.Accuracy.{Run, left, history, next, traceOf, hasClosed, businessEvents, hasRoom, Satisfies, workflowOf, accessOf, policyOf, Enforced, EventIsProcess, SixteenIsAccess, SeventeenIsOrder, EightIsFull, CloseIsTrace, CloseIsMultiset, StatusIsTrace}
 use Rattle.claims.specs.Ordered.{isOrdered, permissionsOf, ordering, finals, stateAfter, leadsAfter, mayEnd, isPermitted}
@@ -131,13 +131,13 @@ module _ (r : Run) where
   abbrev t : Trace
   t = traceOf l
 
-  follows : Follows o (left r) l
+  pub follows : Follows o (left r) l
   follows = follows-run o (r .opens) (r .events) (r .lengths) (opened o) [] (follows-opened o (r .opens))
 
-  answer : (w n : ℕ) → 8192 ≤ n → eventCode (left r) w n ≡ answerTo o l (next r w)
+  answer : (w n : ℕ) → isShort w n ≡ false → eventCode (left r) w n ≡ answerTo o l (next r w)
   answer = answered o (r .opens) (left r) l follows
 
-  pub open-answer : (w n : ℕ) → 8192 ≤ n → hasClosed l ≡ false → eventCode (left r) w n ≡ openAnswer o l (next r w)
+  pub open-answer : (w n : ℕ) → isShort w n ≡ false → hasClosed l ≡ false → eventCode (left r) w n ≡ openAnswer o l (next r w)
   open-answer w n long k = answer w n long ∙ ap (λ b. cond b CLOSED (openAnswer o l (next r w))) k
 
   is-formed : So (wellFormed φ)
@@ -365,9 +365,9 @@ module _ (r : Run) where
         )
 
   -- ── a close ──
-  close : (w n : ℕ) → 8192 ≤ n → next r w ≡ Closes → So (not (hasClosed l)) → (eventCode (left r) w n ≡ ACCEPTED) ↔ So (satisfied φ 0 (taken-actions t) && mayEnd o t)
-  close w n long q k = subst (λ (x : ℕ). (x ≡ ACCEPTED) ↔ So (satisfied φ 0 (taken-actions t) && mayEnd o t))
-      (sym (open-answer w n long (not-true (hasClosed l) k) ∙ ap (openAnswer o l) q)) (zero-code (satisfied φ 0 (taken-actions t) && mayEnd o t) NOT-SATISFIED (omega arith))
+  close : (w n : ℕ) → next r w ≡ Closes → So (not (hasClosed l)) → (eventCode (left r) w n ≡ ACCEPTED) ↔ So (satisfied φ 0 (taken-actions t) && mayEnd o t)
+  close w n q k = subst (λ (x : ℕ). (x ≡ ACCEPTED) ↔ So (satisfied φ 0 (taken-actions t) && mayEnd o t))
+      (sym (open-answer w n (subst (Asks w n) q (asks (o .users) (o .roles) w n)) (not-true (hasClosed l) k) ∙ ap (openAnswer o l) q)) (zero-code (satisfied φ 0 (taken-actions t) && mayEnd o t) NOT-SATISFIED (omega arith))
 
 -- ── the claims ──
 pub event-is-process : EventIsProcess
@@ -375,7 +375,7 @@ event-is-process r w n long m k = subst₂ (λ (x : ℕ) (s : List Symbol). (x �
     (process r (hasClosed (history r)) (next r w) (declared (r .start .users) (r .start .roles) w) m k)
 
 -- a claim about an action's number, from what holds of it by the trace
-module _ (r : Run) (w n : ℕ) (long : 8192 ≤ n) (k : ℕ) (X : List Symbol → Type 1)
+module _ (r : Run) (w n : ℕ) (long : isShort w n ≡ false) (k : ℕ) (X : List Symbol → Type 1)
     (f : (cond (hasClosed (history r)) CLOSED (openAnswer (r .start) (history r) (next r w)) ≡ k)
     ↔ (So (isAction (next r w)) × So (not (hasClosed (history r))) × X (ended (t r) (hasClosed (history r)) ++ symbolOf (next r w)))) where
   claimed : (eventCode (left r) w n ≡ k) ↔ (So (isAction (next r w)) × So (not (hasClosed (history r))) × X (history r ++ symbolOf (next r w)))
@@ -401,13 +401,13 @@ eight-is-full r w n long =
     (λ c e. (businessEvents (history r) ≡ 12) × (So (isOrdered (r .start)) → Taken r c e × Ordered r c e)) (eight r) (hasClosed (history r)) (next r w))) in-four
 
 pub close-is-trace : CloseIsTrace
-close-is-trace r w n long q k =
-    iff-trans (close r w n long q k) (iff-trans (and-iff (satisfied (φ r) 0 (taken-actions r (t r))) (mayEnd (r .start) (t r)))
+close-is-trace r w n q k =
+    iff-trans (close r w n q k) (iff-trans (and-iff (satisfied (φ r) 0 (taken-actions r (t r))) (mayEnd (r .start) (t r)))
     (both (satisfied-is-trace (φ r) (is-formed r) (r .start .rows) (t r)) (so-iff refl)))
 
 pub close-is-multiset : CloseIsMultiset
-close-is-multiset r w n long q k b =
-    iff-trans (close r w n long q k) (iff-trans (and-iff (satisfied (φ r) 0 (taken-actions r (t r))) (mayEnd (r .start) (t r)))
+close-is-multiset r w n q k b =
+    iff-trans (close r w n q k) (iff-trans (and-iff (satisfied (φ r) 0 (taken-actions r (t r))) (mayEnd (r .start) (t r)))
     (both (satisfied-is-multiset (φ r) (is-formed r) (r .start .rows) (t r) b) (so-iff refl)))
 
 -- the three letters, of a mark and a judgement
@@ -420,9 +420,9 @@ letters false true k = ((λ e. absurd (omega arith), λ e. never e), (λ e. (ref
 letters false false k = ((λ e. absurd (omega arith), λ e. never e), (λ e. absurd (omega arith), λ e. never (k .1 (e .1))), (λ e. (refl, λ x. never (k .1 x)), λ e. refl))
 
 pub status-is-trace : StatusIsTrace
-status-is-trace r n long =
+status-is-trace r =
     subst (λ (x : ℕ). ((x ≡ letterD) ↔ So (hasClosed (history r)))
     × ((x ≡ letterC) ↔ (So (not (hasClosed (history r))) × Satisfies r))
     × ((x ≡ letterO) ↔ (So (not (hasClosed (history r))) × (Satisfies r → ⊥))))
-    (sym (letter-given (r .start) (r .opens) (left r) (history r) (follows r) n long))
+    (sym (letter-given (r .start) (r .opens) (left r) (history r) (follows r)))
     (letters (hasClosed (history r)) (satisfied (φ r) 0 (noted (φ r) (r .start .rows) (t r))) (satisfied-is-trace (φ r) (is-formed r) (r .start .rows) (t r)))

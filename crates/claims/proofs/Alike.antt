@@ -3,7 +3,7 @@
 use mathlib.Core.Path.{_≡_, refl, sym, _∙_, ap, ap₂, subst}
 use mathlib.Core.Bool.{Bool, true, false, not, _&&_, _||_, cond}
 use mathlib.Core.List.{List, [], _∷_, _++_}
-use Prim.Native.Nat.{ℕ, _+_, _≤_}
+use Prim.Native.Nat.{ℕ}
 use lib.Dec.{leb, eqb}
 use Rattle.soda.specs.Tables.{Execution, satisfied, possible, judge}
 use Rattle.soda.specs.Traces.{business, Trace, executed, noted}
@@ -17,9 +17,10 @@ use Rattle.monitor.specs.declared.Monitor.{Monitor}
 use Rattle.monitor.specs.declared.Event.{Event}
 use Rattle.monitor.specs.declared.Event.the-variants.{Acts, Grants, Revokes, Closes, Malformed}
 use Rattle.monitor.specs.Monitors.{Opening, given, policy, openCode, opened}
-use Rattle.monitor.specs.Events.{readEvent, eventCode, eventMonitor}
-use Rattle.monitor.specs.Statuses.{letterD, letterC, letterO, statusCode, statusLetter}
-use Rattle.monitor.specs.Runs.{Lengths, Enough, from, stepOf, run}
+use Rattle.monitor.specs.Events.{readEvent, isShort, eventCode, eventMonitor}
+use Rattle.instance.specs.Letters.{letterD, openLetter}
+use Rattle.monitor.specs.Statuses.{statusCode, statusLetter}
+use Rattle.monitor.specs.Runs.{Lengths, EnoughFor, from, stepOf, run}
 use Rattle.claims.specs.Runs.{symbolOf, kept, lines}
 use Rattle.claims.specs.Ordered.{isOrdered, leadsAfter, mayEnd, isPermitted}
 use Rattle.claims.specs.Accuracy.{traceOf, hasClosed, businessEvents}
@@ -64,25 +65,25 @@ module _ (users roles : ℕ) (v w rows permissions workflow : List ℕ) where
       same-answer e = ap (λ k. cond (hasClosed l) CLOSED k) (same-open e)
 
       same-after : letterAfter o l ≡ letterAfter o′ l
-      same-after = ap (λ s. cond (hasClosed l) letterD (cond s letterC letterO)) (same-satisfied (traceOf l))
+      same-after = ap (λ s. cond (hasClosed l) letterD (openLetter s)) (same-satisfied (traceOf l))
 
     -- ── two monitors that keep step with the same events ──
     module _ (m m′ : Monitor) (l : List Symbol) (f : Follows o m l) (g : Follows o′ m′ l) where
-      same-code : (x n n′ : ℕ) → 8192 ≤ n → 8192 ≤ n′ → eventCode m x n ≡ eventCode m′ x n′
+      same-code : (x n n′ : ℕ) → isShort x n ≡ false → isShort x n′ ≡ false → eventCode m x n ≡ eventCode m′ x n′
       same-code x n n′ long long′ = answered o p m l f x n long ∙ same-answer l (readEvent users roles x) ∙ sym (answered o′ q m′ l g x n′ long′)
 
-      same-status : (n n′ : ℕ) → 8192 ≤ n → 8192 ≤ n′ → (statusCode m n ≡ statusCode m′ n′) × (statusLetter m n ≡ statusLetter m′ n′)
-      same-status n n′ long long′ = (
-        status-given o p m l f n long ∙ sym (status-given o′ q m′ l g n′ long′),
-        letter-given o p m l f n long ∙ same-after l ∙ sym (letter-given o′ q m′ l g n′ long′),
+      same-status : (statusCode m ≡ statusCode m′) × (statusLetter m ≡ statusLetter m′)
+      same-status = (
+        status-given o p m l f ∙ sym (status-given o′ q m′ l g),
+        letter-given o p m l f ∙ same-after l ∙ sym (letter-given o′ q m′ l g),
       )
 
       -- what they accept is the same
-      same-kept : (x : ℕ) (n n′ : Lengths) → 8192 ≤ n 0 → 8192 ≤ n′ 0 → kept (stepOf m x n) ≡ kept (stepOf m′ x n′)
+      same-kept : (x : ℕ) (n n′ : Lengths) → isShort x (n 0) ≡ false → isShort x (n′ 0) ≡ false → kept (stepOf m x n) ≡ kept (stepOf m′ x n′)
       same-kept x n n′ long long′ = ap₂ (λ k e. cond (eqb k ACCEPTED) (symbolOf e) []) (same-code x (n 0) (n′ 0) long long′) (same-event o p m l f x ∙ sym (same-event o′ q m′ l g x))
 
     -- the whole list
-    same-lines : (ws : List ℕ) (n n′ : Lengths) → Enough n → Enough n′ → (m m′ : Monitor) (l : List Symbol) → Follows o m l → Follows o′ m′ l
+    same-lines : (ws : List ℕ) (n n′ : Lengths) → EnoughFor ws n → EnoughFor ws n′ → (m m′ : Monitor) (l : List Symbol) → Follows o m l → Follows o′ m′ l
         → lines (run m ws n) ≡ lines (run m′ ws n′)
     unfolding run
     same-lines [] n n′ long long′ m m′ l f g = refl
@@ -91,10 +92,10 @@ module _ (users roles : ℕ) (v w rows permissions workflow : List ℕ) where
         let j′ = eventMonitor m′ x (n′ 0) in
         let k = l ++ kept (stepOf m x n) in
         let f′ : Follows o j k = step o p m l f x n in
-        let g′ : Follows o′ j′ k = subst (λ s. Follows o′ j′ (l ++ s)) (sym (same-kept m m′ l f g x n n′ (long 0) (long′ 0))) (step o′ q m′ l g x n′) in
-        let (a, b) = same-status j j′ k f′ g′ (n 1) (n′ 1) (long 1) (long′ 1) in
-        let c = same-code m m′ l f g x (n 0) (n′ 0) (long 0) (long′ 0) in
-        let rest = same-lines ws (from 2 n) (from 2 n′) (λ h. long (2 + h)) (λ h. long′ (2 + h)) j j′ k f′ g′ in
+        let g′ : Follows o′ j′ k = subst (λ s. Follows o′ j′ (l ++ s)) (sym (same-kept m m′ l f g x n n′ (long .0) (long′ .0))) (step o′ q m′ l g x n′) in
+        let (a, b) = same-status j j′ k f′ g′ in
+        let c = same-code m m′ l f g x (n 0) (n′ 0) (long .0) (long′ .0) in
+        let rest = same-lines ws (from 1 n) (from 1 n′) (long .1) (long′ .1) j j′ k f′ g′ in
         λ i. (c i, a i, b i) ∷ rest i
 
     pub answered-alike : AnsweredAlike o o′

@@ -1,4 +1,4 @@
--- A run's steps are calls: numbers, monitors and letters go by the length of the workspace alone.
+-- A run's steps are calls: numbers and monitors go by the length of the workspace alone, letters by the monitor.
 use mathlib.Core.Path.{refl}
 use Rattle.policy.proofs.Places.{code-has-number}
 use Rattle.monitor.specs.Monitors.{openCode}
@@ -11,9 +11,9 @@ opening-is-call o = (code-has-number (o .users) (o .roles) (o .words) (openCode 
 
 pub step-is-calls : StepIsCalls
 unfolding outcome statusOf
-step-is-calls m w n before before′ e e′ = record {
+step-is-calls m w n before e = record {
   number = rw e;
   monitor = rw e;
-  status-number = rw (e, e′);
-  letter = rw (e, e′);
+  status-number = rw e;
+  letter = rw e;
 }

@@ -44,7 +44,8 @@ use Rattle.configuration.specs.Configurations.{assignment, held}
 use Rattle.instance.specs.Instances.{policyOf, takenOf, term, hasWorkflow, isClosed, noted as notedAs, notedFor}
 use Rattle.instance.specs.Steps.{isAuthorized, leadsTo, stateOf, isFinal as isFinalHere}
 use Rattle.monitor.specs.Monitors.{Opening, policy, secure, openCode, fresh, opened, wellFormed}
-use Rattle.monitor.specs.Events.{eventIn, ownRefusals, configured, advanced, applied, eventCode, eventMonitor, outcome, tried}
+use Rattle.monitor.specs.Statuses.{letterOf}
+use Rattle.monitor.specs.Events.{isShort, eventIn, ownRefusals, configured, advanced, applied, eventCode, eventMonitor, outcome, tried}
 use Rattle.monitor.specs.Laws.{Declared, Passed}
 use Rattle.monitor.specs.Runs.{Lengths, from, stepOf, run, final}
 use Rattle.monitor.proofs.Opening.{opened-is-fresh}
@@ -54,6 +55,7 @@ use Rattle.monitor.proofs.Reading.{declared}
 use Rattle.monitor.proofs.Order.{accepted-has-passed}
 use Rattle.instance.proofs.Formed.{taken-more}
 use Rattle.monitor.proofs.Preserved.{opened-is-well-formed, accepted-stays-well-formed}
+use Rattle.monitor.proofs.Letters.{opened-has-letter, event-keeps-letter}
 use Rattle.claims.specs.Runs.{symbolOf, kept, accepted}
 use Rattle.claims.specs.Ordered.{isOrdered, permissionsOf, ordering, finals, stateAfter, leadsAfter, mayEnd, isPermitted}
 use Rattle.claims.specs.Accuracy.{traceOf, hasClosed, businessEvents}
@@ -131,6 +133,7 @@ pub record Follows (o : Opening) (m : Monitor) (l : List Symbol) : Type 0 where
   pub same-rows : assignment (m .configuration) ≡ upd (o .rows) (traceOf l)
   pub same-taken : takenOf (m .instance) ≡ noted (policy o) (o .rows) (traceOf l)
   pub same-mark : isClosed (m .instance) ≡ hasClosed l
+  pub same-letter : m .instance .status ≡ letterOf (m .instance)
   pub fits : So (possible (policy o) 0 (takenOf (m .instance)))
   pub below : So (actedBelow (o .users) (traceOf l))
   pub ends : l ≡ ended (traceOf l) (hasClosed l)
@@ -157,6 +160,7 @@ module _ (o : Opening) (z : openCode o ≡ 0) where
         ∙ take-append-seam (o .rows) (replicate (16 - length (o .rows)) 0);
     same-taken = refl;
     same-mark = refl;
+    same-letter = opened-has-letter o;
     fits = empty-set Action (λ a. a .user) (λ φ j a. bit j (a .met)) true (policy o) 0;
     below = refl;
     ends = refl;
@@ -355,8 +359,9 @@ module _ (o : Opening) (z : openCode o ≡ 0) where
     trace-next : (e : Event) → traceOf (l ++ symbolOf e) ≡ t ++ traceOf (symbolOf e)
     trace-next e = trace-append l (symbolOf e)
 
-    follows-next : (e : Event) (n : ℕ) → Passed m e n → Declared (c .users) (c .roles) e → So (wellFormed (applied m e)) → Follows o (applied m e) (l ++ symbolOf e)
-    follows-next e n p d h =
+    follows-next : (e : Event) (short : Bool) → Passed m e short → Declared (c .users) (c .roles) e → So (wellFormed (applied m e))
+        → applied m e .instance .status ≡ letterOf (applied m e .instance) → Follows o (applied m e) (l ++ symbolOf e)
+    follows-next e short p d h lettered =
         let (users, roles, words, permissions, workflow) = stays e in
         let s = traceOf (symbolOf e) in
         let was-open : hasClosed l ≡ false = sym (f .same-mark) ∙ p .is-open in
@@ -371,6 +376,7 @@ module _ (o : Opening) (z : openCode o ≡ 0) where
           same-taken = taken-next e d (p .own) ∙ ap (λ x. x ++ noted (policy o) ua s) (f .same-taken) ∙ sym (noted-append (policy o) t s (o .rows))
               ∙ ap (noted (policy o) (o .rows)) (sym (trace-next e));
           same-mark = mark-next e (p .is-open) ∙ sym closed;
+          same-letter = lettered;
           fits = fits-next e d (p .own);
           below = subst (λ x. So (actedBelow (o .users) x)) (sym (trace-next e)) (below-append (o .users) t s (f .below) (below-next e d));
           ends = ends-next e was-open ∙ ap₂ ended (sym (trace-next e)) (sym closed);
@@ -381,17 +387,22 @@ module _ (o : Opening) (z : openCode o ≡ 0) where
         }
 
     -- ── one step of a run ──
-    well-next : (w n : ℕ) → eventCode m w n ≡ 0 → So (wellFormed (eventMonitor m w n))
-    unfolding outcome
-    well-next w n k =
-        subst (λ x. So (wellFormed (eventMonitor m w x))) long (accepted-stays-well-formed m w lent (f .places) (ap (eventCode m w) long ∙ k))
-      where
-        -- any workspace of that length
-        lent : List ℕ
-        lent = replicate n 0
+    -- what an event call with a workspace of this length leaves is well formed, and has document 01's letter
+    module _ (w n : ℕ) where
+      -- any workspace of that length
+      abbrev lent : List ℕ
+      lent = replicate n 0
 
-        long : length lent ≡ n
-        long = length-replicate n 0
+      as-long : length lent ≡ n
+      as-long = length-replicate n 0
+
+      well-next : eventCode m w n ≡ 0 → So (wellFormed (eventMonitor m w n))
+      unfolding outcome
+      well-next k = subst (λ x. So (wellFormed (eventMonitor m w x))) as-long (accepted-stays-well-formed m w lent (f .places) (ap (eventCode m w) as-long ∙ k))
+
+      letter-next : eventMonitor m w n .instance .status ≡ letterOf (eventMonitor m w n .instance)
+      unfolding outcome
+      letter-next = subst (λ x. eventMonitor m w x .instance .status ≡ letterOf (eventMonitor m w x .instance)) as-long (event-keeps-letter m w lent (f .places) (f .same-letter))
 
     pub step : (w : ℕ) (n : Lengths) → Follows o (eventMonitor m w (n 0)) (l ++ kept (stepOf m w n))
     step w n = by-test (eqb (eventCode m w (n 0)) 0) taken refused
@@ -405,9 +416,10 @@ module _ (o : Opening) (z : openCode o ≡ 0) where
         taken : eqb (eventCode m w (n 0)) 0 ≡ true → Left (eqb (eventCode m w (n 0)) 0)
         taken k =
             let accepts = eqb-true (eventCode m w (n 0)) 0 k in
-            let p = accepted-has-passed m e (n 0) accepts in
+            let p = accepted-has-passed m e (isShort w (n 0)) accepts in
             let h : So (wellFormed (applied m e)) = rw k at (well-next w (n 0) accepts) in
-            rw k (follows-next e (n 0) p (declared (c .users) (c .roles) w) h)
+            let lettered : applied m e .instance .status ≡ letterOf (applied m e .instance) = rw k at (letter-next w (n 0)) in
+            rw k (follows-next e (isShort w (n 0)) p (declared (c .users) (c .roles) w) h lettered)
 
         refused : eqb (eventCode m w (n 0)) 0 ≡ false → Left (eqb (eventCode m w (n 0)) 0)
         refused k = rw k (subst (Follows o m) (sym (append-nil l)) f)
@@ -420,5 +432,5 @@ follows-run o z [] n m l f = subst (Follows o m) (sym (append-nil l)) f
 follows-run o z (w ∷ ws) n m l f =
     let j = eventMonitor m w (n 0) in
     let k = kept (stepOf m w n) in
-    subst (Follows o (final j (run j ws (from 2 n)))) (append-assoc l k (accepted (run j ws (from 2 n))))
-    (follows-run o z ws (from 2 n) j (l ++ k) (step o z m l f w n))
+    subst (Follows o (final j (run j ws (from 1 n)))) (append-assoc l k (accepted (run j ws (from 1 n))))
+    (follows-run o z ws (from 1 n) j (l ++ k) (step o z m l f w n))

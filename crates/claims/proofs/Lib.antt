@@ -6,6 +6,8 @@ pub mod Ordered
 pub mod Follows
 pub mod Answers
 pub mod Accuracy
+-- The letter that a monitor keeps.
+pub mod Letters
 pub mod Multisets
 -- Demand 3.
 pub mod Alike

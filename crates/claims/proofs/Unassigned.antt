@@ -1,7 +1,7 @@
 -- What is noted for a user without a role is nothing, so that no list of actions with theirs is possible.
-use mathlib.Core.Path.{_≡_, refl, sym, ap, _∙_}
+use mathlib.Core.Path.{_≡_, refl, sym, ap, ap₂, subst, _∙_}
 use mathlib.Core.Logic.{_⊎_, inl, inr, _≢_}
-use mathlib.Core.Bool.{true, false, not, cond, true≢false}
+use mathlib.Core.Bool.{Bool, true, false, not, cond, true≢false}
 use mathlib.Core.List.{List, [], _∷_, _++_}
 use Prim.Native.Nat.{ℕ, _≤_, _<_}
 use lib.Dec.{leb, ltb}
@@ -30,8 +30,9 @@ use Rattle.monitor.specs.declared.Monitor.{Monitor}
 use Rattle.monitor.specs.declared.Event.{Event}
 use Rattle.monitor.specs.declared.Event.the-variants.{Acts, Malformed}
 use Rattle.monitor.specs.Monitors.{policy, wellFormed, admission}
-use Rattle.monitor.specs.Events.{eventIn, entry, tried, ownRefusals, eventRefusals, eventCode}
+use Rattle.monitor.specs.Events.{isShort, eventIn, entry, tried, ownRefusals, eventRefusals, eventCode}
 use Rattle.monitor.specs.Enabled.{actionWord, enabledMask}
+use Rattle.monitor.proofs.Reading.{Asks, asks, long-is-enough}
 use Rattle.monitor.proofs.Enabling.{read-action, bit-is-action, no-other-bit}
 use Rattle.claims.specs.Accuracy.{Run, history, traceOf, hasClosed, businessEvents}
 use Rattle.claims.specs.Ordered.{isOrdered, permissionsOf, isPermitted}
@@ -64,7 +65,7 @@ module _ (r : Run) (u a : ℕ) where
 pub unassigned-gets-nine : UnassignedGetsNine
 unassigned-gets-nine r w u a n long q e still room =
     let l = history r in
-    open-answer r w n long (not-true (hasClosed l) still) ∙ ap (openAnswer (r .start) l) q
+    open-answer r w n (long-is-enough w n long) (not-true (hasClosed l) still) ∙ ap (openAnswer (r .start) l) q
     ∙ by-test (isOrdered (r .start))
     (λ h. rw (h, not-permitted r u a e))
     (λ h. rw (h, lt-leb 12 (businessEvents l) (so-lt (businessEvents l) 12 room), not-possible r u a e))
@@ -90,7 +91,7 @@ module _ (m : Monitor) (u a n : ℕ) where
       let none = ap (λ h. authorized (c .permissions) h a) e ∙ authorized-none (c .permissions) a in
       by-test (hasWorkflow i) (λ h. rw (h, none)) (λ h. rw (h, impossible e))
 
-  answered : held c u ≡ 0 → code (eventRefusals m (Acts u a) n) ≡ code (unassignedRefusals m u a n)
+  answered : held c u ≡ 0 → code (eventRefusals m (Acts u a) (ltb n 8192)) ≡ code (unassignedRefusals m u a n)
   unfolding eventRefusals admission
   answered e = ap (λ k. cond (ltb n 8192) WORKSPACE (cond (not (wellFormed m)) MONITOR (cond (isClosed i) CLOSED k))) (own-code e)
 
@@ -98,14 +99,18 @@ module _ (m : Monitor) (u a n : ℕ) where
   refused : code (unassignedRefusals m u a n) ≢ 0
   unfolding admission
   refused z =
-      let (closed, (malformed, (given, (full, (last, none))))) = clear-behind (admission m n) (entry i (Acts u a) ++ own) (clear (unassignedRefusals m u a n) refl z) in
+      let (closed, (malformed, (given, (full, (last, none))))) = clear-behind (admission m (ltb n 8192)) (entry i (Acts u a) ++ own) (clear (unassignedRefusals m u a n) refl z) in
       true≢false last
 
 pub unassigned-is-turned-away : UnassignedIsTurnedAway
 unassigned-is-turned-away m w u a n r e = (is, λ z. refused m u a n (sym is ∙ z))
   where
+    -- an action's word asks for a workspace
+    long : isShort w n ≡ ltb n 8192
+    long = subst (Asks w n) r (asks (m .configuration .users) (m .configuration .roles) w n)
+
     is : eventCode m w n ≡ code (unassignedRefusals m u a n)
-    is = ap (λ (e : Event). code (eventRefusals m e n)) r ∙ answered m u a n e
+    is = ap₂ (λ (e : Event) (b : Bool). code (eventRefusals m e b)) r long ∙ answered m u a n e
 
 pub unassigned-may-not-act : UnassignedMayNotAct
 unassigned-may-not-act m u a n byte small e = by (lt-or-le u (m .configuration .users))

@@ -1,7 +1,7 @@
 -- Demand 2: after an opening and any events, the monitor answers what document 004 says, its Definitions 3, 6 and 7, with rule 4 of Definition
 -- 3 as document 02's E3 replaces it (`Rule4` of soda), and with permissions and a workflow its process SSW (E4). Statements only.
--- `eventCode` and `statusLetter` are fields of `outcome` and `statusOf`, which the contracts of `event` and `status` cite. Both are
--- given the length of the workspace alone, so its contents play no part (`StepIsCalls` of Calls).
+-- `eventCode` and `statusLetter` are fields of `outcome` and `statusOf`, which the contracts of `event` and `status` cite. The first is
+-- given the length of the workspace alone, so its contents play no part (`StepIsCalls` of Calls); the second is given none.
 use mathlib.Core.Path.{_≡_}
 use mathlib.Core.Logic.{_↔_}
 use mathlib.Core.Bool.{Bool, true, false, So, not, cond}
@@ -19,8 +19,9 @@ use Rattle.monitor.specs.declared.Monitor.{Monitor}
 use Rattle.monitor.specs.declared.Event.{Event}
 use Rattle.monitor.specs.declared.Event.the-variants.{Acts, Grants, Revokes, Closes, Malformed}
 use Rattle.monitor.specs.Monitors.{Opening, policy, openCode, opened}
-use Rattle.monitor.specs.Events.{readEvent, isMalformed, eventCode}
-use Rattle.monitor.specs.Statuses.{letterD, letterC, letterO, statusLetter}
+use Rattle.instance.specs.Letters.{letterD, letterC, letterO}
+use Rattle.monitor.specs.Events.{readEvent, isMalformed, isShort, eventCode}
+use Rattle.monitor.specs.Statuses.{statusLetter}
 use Rattle.monitor.specs.Runs.{Lengths, Step, run, final, isAction}
 use Rattle.multiset.specs.MultisetTest.{total, letterY, letterN, unordered, testOf}
 use Rattle.claims.specs.Runs.{symbolOf, accepted}
@@ -104,23 +105,24 @@ InOrder r e = Accepts body (workflowOf (r .start)) (withoutAdmin (history r ++ s
 
 -- ── the claims ──
 -- The next word in the layout, be it an action, a grant, a revocation or a close, is answered 0 exactly when the process has the
--- accepted events followed by it. For an action fewer than twelve have been taken.
+-- accepted events followed by it. The workspace is long enough for it, and a close asks for none; for an action fewer than twelve have been
+-- taken.
 abbrev pub EventIsProcess : Type 1
 EventIsProcess =
-    (r : Run) (w n : ℕ) → 8192 ≤ n → isMalformed (next r w) ≡ false → So (hasRoom (history r) (next r w))
+    (r : Run) (w n : ℕ) → isShort w n ≡ false → isMalformed (next r w) ≡ false → So (hasRoom (history r) (next r w))
     → (eventCode (left r) w n ≡ ACCEPTED) ↔ Enforced r (history r ++ symbolOf (next r w))
 
 -- 16 is answered exactly when permissions are given, the word is an action in the layout, no close has been accepted, and RBAC does not
 -- take it; 17 exactly when RBAC does and the workflow does not.
 abbrev pub SixteenIsAccess : Type 1
 SixteenIsAccess =
-    (r : Run) (w n : ℕ) → 8192 ≤ n
+    (r : Run) (w n : ℕ) → isShort w n ≡ false
     → (eventCode (left r) w n ≡ NOT-AUTHORIZED)
     ↔ (So (isAction (next r w)) × So (not (hasClosed (history r))) × So (isOrdered (r .start)) × (Authorized r (next r w) → ⊥))
 
 abbrev pub SeventeenIsOrder : Type 1
 SeventeenIsOrder =
-    (r : Run) (w n : ℕ) → 8192 ≤ n
+    (r : Run) (w n : ℕ) → isShort w n ≡ false
     → (eventCode (left r) w n ≡ NO-TRANSITION)
     ↔ (So (isAction (next r w)) × So (not (hasClosed (history r))) × So (isOrdered (r .start)) × Authorized r (next r w) × (InOrder r (next r w) → ⊥))
 
@@ -128,22 +130,22 @@ SeventeenIsOrder =
 -- workflow, if they are given, take it.
 abbrev pub EightIsFull : Type 1
 EightIsFull =
-    (r : Run) (w n : ℕ) → 8192 ≤ n
+    (r : Run) (w n : ℕ) → isShort w n ≡ false
     → (eventCode (left r) w n ≡ FULL)
     ↔ (So (isAction (next r w)) × So (not (hasClosed (history r))) × (businessEvents (history r) ≡ 12)
     × (So (isOrdered (r .start)) → Authorized r (next r w) × InOrder r (next r w)))
 
 -- A close is answered 0 exactly when the run satisfies the policy under the trace rules and the workflow, if it is given, is in a final
--- state. (No close has been accepted: 004's traces end with done.)
+-- state, whatever the workspace. (No close has been accepted: 004's traces end with done.)
 abbrev pub CloseIsTrace : Type 0
 CloseIsTrace =
-    (r : Run) (w n : ℕ) → 8192 ≤ n → next r w ≡ Closes → So (not (hasClosed (history r)))
+    (r : Run) (w n : ℕ) → next r w ≡ Closes → So (not (hasClosed (history r)))
     → (eventCode (left r) w n ≡ ACCEPTED) ↔ (Satisfies r × So (mayEnd (r .start) (traceOf (history r))))
 
 -- With no grant or revocation in the run, exactly when the multiset of its users does and the workflow is in one.
 abbrev pub CloseIsMultiset : Type 0
 CloseIsMultiset =
-    (r : Run) (w n : ℕ) → 8192 ≤ n → next r w ≡ Closes → So (not (hasClosed (history r))) → So (businessOnly (traceOf (history r)))
+    (r : Run) (w n : ℕ) → next r w ≡ Closes → So (not (hasClosed (history r))) → So (businessOnly (traceOf (history r)))
     → (eventCode (left r) w n ≡ ACCEPTED)
     ↔ (SatM (r .start .rows) (users (traceOf (history r))) (policy (r .start)) × So (mayEnd (r .start) (traceOf (history r))))
 
@@ -151,10 +153,10 @@ CloseIsMultiset =
 -- the policy under the trace rules, and `o` exactly when it does not.
 abbrev pub StatusIsTrace : Type 0
 StatusIsTrace =
-    (r : Run) (n : ℕ) → 8192 ≤ n
-    → ((statusLetter (left r) n ≡ letterD) ↔ So (hasClosed (history r)))
-    × ((statusLetter (left r) n ≡ letterC) ↔ (So (not (hasClosed (history r))) × Satisfies r))
-    × ((statusLetter (left r) n ≡ letterO) ↔ (So (not (hasClosed (history r))) × (Satisfies r → ⊥)))
+    (r : Run)
+    → ((statusLetter (left r) ≡ letterD) ↔ So (hasClosed (history r)))
+    × ((statusLetter (left r) ≡ letterC) ↔ (So (not (hasClosed (history r))) × Satisfies r))
+    × ((statusLetter (left r) ≡ letterO) ↔ (So (not (hasClosed (history r))) × (Satisfies r → ⊥)))
 
 -- The input of a multiset test: a workspace long enough, an opening that would be accepted without permissions and workflow, no action by a
 -- user who is not declared, and twelve actions at most.

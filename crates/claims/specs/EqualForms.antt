@@ -12,7 +12,7 @@ use Rattle.policy.specs.Reading.{refusals}
 use Rattle.normal.specs.NormalForms.{normalOut}
 use Rattle.monitor.specs.Monitors.{Opening, given, openCode, opened}
 use Rattle.monitor.specs.Statuses.{statusCode, statusLetter}
-use Rattle.monitor.specs.Runs.{Lengths, Enough, run}
+use Rattle.monitor.specs.Runs.{Lengths, EnoughFor, run}
 use Rattle.claims.specs.Runs.{lines}
 
 -- a policy is accepted when none of 5 and 1 to 4 applies
@@ -24,11 +24,11 @@ abbrev pub normal : ℕ → ℕ → List ℕ → List ℕ → List ℕ
 normal users roles words out = take (length words) (normalOut users roles words out)
 
 -- The monitors that two openings leave have the same status, and they give every list of 32-bit words the same number for each event and
--- the same status after it. Every call may have its own workspace, long enough: only its length is passed, so its contents play no part.
+-- the same status after it. Every event call may have its own workspace, long enough for its word, a close may have any: only its length is
+-- passed, so its contents play no part. The status call has none.
 pub record AnsweredAlike (o p : Opening) : Type 0 where
-  pub status : (n n′ : ℕ) → 8192 ≤ n → 8192 ≤ n′
-      → (statusCode (opened o) n ≡ statusCode (opened p) n′) × (statusLetter (opened o) n ≡ statusLetter (opened p) n′)
-  pub events : (ws : List ℕ) (n n′ : Lengths) → Enough n → Enough n′ → lines (run (opened o) ws n) ≡ lines (run (opened p) ws n′)
+  pub status : (statusCode (opened o) ≡ statusCode (opened p)) × (statusLetter (opened o) ≡ statusLetter (opened p))
+  pub events : (ws : List ℕ) (n n′ : Lengths) → EnoughFor ws n → EnoughFor ws n′ → lines (run (opened o) ws n) ≡ lines (run (opened p) ws n′)
 
 -- Two accepted policies over the same counts, and an output long enough for each: they have the same normal form exactly when exchanges
 -- and regroupings lead from one to the other. If they have the same normal form then, opened on the same grants, permissions and workflow,

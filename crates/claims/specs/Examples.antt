@@ -9,7 +9,7 @@ use Rattle.soda.specs.Lists.{all, padded}
 use Rattle.policy.specs.Reading.{readPolicy, numberOf}
 use Rattle.normal.specs.NormalForms.{normalOut}
 use Rattle.monitor.specs.Monitors.{Opening, bare, openCode, opened}
-use Rattle.monitor.specs.Statuses.{letterD, letterC, letterO}
+use Rattle.instance.specs.Letters.{letterD, letterC, letterO}
 use Rattle.monitor.specs.Runs.{run}
 use Rattle.multiset.specs.MultisetTest.{letterY, letterN, testOf}
 use Rattle.claims.specs.Runs.{Line, lines}

@@ -2,6 +2,7 @@ pub mod Runs
 pub mod Ordered
 pub mod Calls
 pub mod Accuracy
+pub mod Letters
 pub mod EqualForms
 pub mod KeptMask
 pub mod Unassigned

@@ -5,7 +5,7 @@ use mathlib.Core.Logic.{_≢_}
 use mathlib.Core.Bool.{true, false, So, not, cond}
 use mathlib.Core.List.{List, [], _∷_, _++_}
 use Prim.Native.Nat.{ℕ, _≤_, _<_}
-use lib.Dec.{leb}
+use lib.Dec.{leb, ltb}
 use lib.ListN.{getD}
 use Rattle.soda.specs.Bits.{bit}
 use Rattle.soda.specs.Roles.{roles}
@@ -35,7 +35,7 @@ UnassignedGetsNine =
 -- n is the length of the workspace.
 abbrev pub unassignedRefusals : Monitor → ℕ → ℕ → ℕ → Refusals
 unassignedRefusals m u a n =
-    admission m n
+    admission m (ltb n 8192)
     ++ (entry (m .instance) (Acts u a)
     ++ ((hasWorkflow (m .instance) gives NOT-AUTHORIZED) ∷ (leb 12 (m .instance .taken) gives FULL) ∷ (true gives NOT-POSSIBLE) ∷ []))
 

@@ -210,12 +210,36 @@ fn actions() {
     let instance = full.instance;
     say(b"taken: ", instance.taken);
     let mut workspace = [0u32; 8192];
-    say_status(b"status: ", full.status(&mut workspace));
+    say_status(b"status: ", full.status());
     say_enabled(b"who may act: ", full.enabled(0, &mut workspace));
     let closed = full.event(0x0400_0000, &mut workspace).monitor;
     say_enabled(b"closed, who may act: ", closed.enabled(0, &mut workspace));
     let blank = bare(0, 1, &plus, &rows);
     say_enabled(b"blank, who may act: ", blank.enabled(0, &mut workspace));
+}
+
+// A workspace that is one word short, for what asks for one and for what does not.
+fn short_workspace() {
+    let rows = [1u16];
+    let plus = PLUS;
+    let opened = bare(1, 1, &plus, &rows);
+    let mut counts = [0u8; 16];
+    counts[0] = 1;
+    let mut short = [0u32; 8191];
+    short_event(b"8191 words, action: ", opened, 0x0100_0000);
+    short_event(b"8191 words, unknown kind: ", opened, 0x0500_0000);
+    short_event(b"8191 words, close: ", opened, 0x0400_0000);
+    short_event(b"8191 words, close out of layout: ", opened, 0x0400_0001);
+    say_enabled(b"8191 words, who may act: ", opened.enabled(0, &mut short));
+    say_verdict(
+        b"8191 words, multiset: ",
+        multiset::satisfies(1, 1, &plus, &rows, counts, &mut short),
+    );
+}
+
+fn short_event(asked: &[u8], monitor: Monitor, word: u32) {
+    let mut short = [0u32; 8191];
+    say(asked, monitor.event(word, &mut short).code);
 }
 
 fn workspaces() {
@@ -224,23 +248,9 @@ fn workspaces() {
     let opened = bare(1, 1, &plus, &rows);
     let mut counts = [0u8; 16];
     counts[0] = 1;
-    let mut short = [0u32; 8191];
-    say(
-        b"8191 words, action: ",
-        opened.event(0x0100_0000, &mut short).code,
-    );
-    say_status(b"8191 words, status: ", opened.status(&mut short));
-    say_enabled(b"8191 words, who may act: ", opened.enabled(0, &mut short));
-    say_verdict(
-        b"8191 words, multiset: ",
-        multiset::satisfies(1, 1, &plus, &rows, counts, &mut short),
-    );
     let mut workspace = [0u32; 8192];
-    say(
-        b"8192 words, action: ",
-        opened.event(0x0100_0000, &mut workspace).code,
-    );
-    say_status(b"8192 words, status: ", opened.status(&mut workspace));
+    event(b"8192 words, action: ", opened, 0x0100_0000);
+    event(b"8192 words, unknown kind: ", opened, 0x0500_0000);
     say_enabled(
         b"8192 words, who may act: ",
         opened.enabled(0, &mut workspace),
@@ -249,6 +259,45 @@ fn workspaces() {
         b"8192 words, multiset: ",
         multiset::satisfies(1, 1, &plus, &rows, counts, &mut workspace),
     );
+}
+
+// A monitor with another letter and another mark: says its status, and the number of a close without a workspace.
+fn lettered(asked: &[u8], monitor: Monitor, letter: u8, mark: u8) {
+    let mut instance = monitor.instance;
+    instance.status = letter;
+    instance.closed = mark;
+    let configuration = monitor.configuration;
+    let other = Monitor {
+        configuration,
+        instance,
+    };
+    say_status(asked, other.status());
+    let mut none = [0u32; 1];
+    say(b"close: ", other.event(0x0400_0000, &mut none[..0]).code);
+}
+
+// The letter that is kept, and those that go with the mark and the actions or do not.
+fn letters() {
+    let rows = [1u16];
+    let plus = PLUS;
+    let opened = bare(1, 1, &plus, &rows);
+    say_status(b"opened, status: ", opened.status());
+    lettered(b"no action, o: ", opened, b'o', 0);
+    lettered(b"no action, c: ", opened, b'c', 0);
+    lettered(b"no action, closed, d: ", opened, b'd', 1);
+    let acted = act(opened);
+    say_status(b"acted, status: ", acted.status());
+    lettered(b"one action, o: ", acted, b'o', 0);
+    lettered(b"one action, c: ", acted, b'c', 0);
+    lettered(b"one action, d: ", acted, b'd', 0);
+    lettered(b"one action, no letter: ", acted, 0, 0);
+    lettered(b"one action, closed, c: ", acted, b'c', 1);
+    lettered(b"one action, mark of 2, d: ", acted, b'd', 2);
+    let mut none = [0u32; 1];
+    let closed = acted.event(0x0400_0000, &mut none[..0]).monitor;
+    say_status(b"closed, status: ", closed.status());
+    let blank = Monitor::BLANK;
+    say_status(b"blank, status: ", blank.status());
 }
 
 // One everyone, and operators over it.
@@ -711,7 +760,9 @@ fn main() {
     words();
     users();
     actions();
+    short_workspace();
     workspaces();
+    letters();
     bad_words();
     left_over();
     no_unit_terms();

@@ -17,11 +17,11 @@ use monitor::Status;
 use multiset::Verdict;
 use policy::Code;
 
-// The version, 0.5.0: major, minor and patch number, a byte each.
-const VERSION: u32 = 0x000500;
+// The version, 0.6.0: major, minor and patch number, a byte each.
+const VERSION: u32 = 0x000600;
 
 // The number of the layout of what is lent: another one whenever a field of it comes, goes, moves or means something else.
-const LAYOUT: u32 = 3;
+const LAYOUT: u32 = 4;
 
 // A status as one byte.
 fn status_byte(status: Status) -> u8
@@ -60,10 +60,10 @@ fn verdict_byte(verdict: Verdict, place: &mut u8) -> u8
 }
 
 // The status of a monitor by value, as one byte.
-fn status_of(monitor: Monitor, workspace: &mut [u32]) -> u8
-    ensures { λ r. ⌜ (r ≡ statusByte (statusOf monitor (now (workspace .entry)))) × (now (workspace .exit) ≡ statusOf monitor (now (workspace .entry)) .workspace) ⌝ }
+fn status_of(monitor: Monitor) -> u8
+    ensures { λ r. ⌜ r ≡ statusByte (statusOf monitor) ⌝ }
 {
-    status_byte(monitor.status(workspace))
+    status_byte(monitor.status())
 }
 
 // Opens a monitor where the caller keeps it, with permissions and a workflow if they are not empty; a refusal leaves the blank one there. A
@@ -101,11 +101,11 @@ pub extern "C" fn oskhrein_event(monitor: &mut Monitor, word: u32, workspace: &m
 
 // The status of a monitor, which stays as it is.
 #[no_mangle]
-pub extern "C" fn oskhrein_status(monitor: &Monitor, workspace: &mut [u32]) -> u8
-    ensures { λ r. ⌜ (r ≡ statusByte (statusOf (now (monitor .entry)) (now (workspace .entry)))) × (now (workspace .exit) ≡ statusOf (now (monitor .entry)) (now (workspace .entry)) .workspace) ⌝ }
+pub extern "C" fn oskhrein_status(monitor: &Monitor) -> u8
+    ensures { λ r. ⌜ r ≡ statusByte (statusOf (now (monitor .entry))) ⌝ }
 {
     let current = *monitor;
-    status_of(current, workspace)
+    status_of(current)
 }
 
 // An answer about users: the number, and the lent users as they are to be left.

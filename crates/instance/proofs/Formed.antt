@@ -18,7 +18,7 @@ use Rattle.policy.proofs.Scanning.{length-range}
 use Rattle.configuration.specs.declared.Configuration.{Configuration}
 use Rattle.instance.specs.declared.Instance.{Instance}
 use Rattle.configuration.specs.Configurations.{isZero}
-use Rattle.instance.specs.Instances.{policyOf, takenOf, isIdle, actionOk, isReadable, isTakenOk, isTidy, isPlaced, instanceOk}
+use Rattle.instance.specs.Instances.{policyOf, takenOf, isIdle, actionOk, isReadable, isTakenOk, isTidy, isPlaced, isLettered, instanceOk}
 use Rattle.instance.specs.Laws.{TakenMore}
 
 -- ── a policy that is read ──
@@ -48,6 +48,7 @@ pub record InstanceFormed (c : Configuration) (i : Instance) : Type 0 where
   pub words-zero : So (all isZero (drop (i .words) (i .policy)))
   pub places-idle : So (all isIdle (drop (i .taken) (i .actions)))
   pub placed : So (isPlaced c i)
+  pub lettered : So (isLettered i)
 
 module _ (c : Configuration) (i : Instance) where
   abbrev read-test : Bool
@@ -65,12 +66,13 @@ module _ (c : Configuration) (i : Instance) where
   pub instance-formed : So (instanceOk c i) → InstanceFormed c i
   unfolding instanceOk
   instance-formed h =
-      let (p, r) = and-split (isReadable c i) (isTakenOk c i && (isTidy i && isPlaced c i)) h in
+      let (p, r) = and-split (isReadable c i) (isTakenOk c i && (isTidy i && (isPlaced c i && isLettered i))) h in
       let (w, e) = and-split (leb (i .words) 31) read-test p in
-      let (t, q) = and-split (isTakenOk c i) (isTidy i && isPlaced c i) r in
+      let (t, q) = and-split (isTakenOk c i) (isTidy i && (isPlaced c i && isLettered i)) r in
       let (n, a) = and-split (leb (i .taken) 12) actions-test t in
-      let (d, s) = and-split (isTidy i) (isPlaced c i) q in
+      let (d, k) = and-split (isTidy i) (isPlaced c i && isLettered i) q in
       let (x, z) = and-split words-test places-test d in
+      let (s, l) = and-split (isPlaced c i) (isLettered i) k in
       record {
         words-most = leb-true (i .words) 31 w;
         read = so-eq (code (refusals (c .users) (c .roles) (policyOf i))) 0 e;
@@ -79,16 +81,18 @@ module _ (c : Configuration) (i : Instance) where
         words-zero = x;
         places-idle = z;
         placed = s;
+        lettered = l;
       }
 
   pub is-instance-formed : InstanceFormed c i → So (instanceOk c i)
   unfolding instanceOk
   is-instance-formed f =
-      and-join (isReadable c i) (isTakenOk c i && (isTidy i && isPlaced c i))
+      and-join (isReadable c i) (isTakenOk c i && (isTidy i && (isPlaced c i && isLettered i)))
       (and-join (leb (i .words) 31) read-test (le-leb (i .words) 31 (f .words-most)) (eq-so (code (refusals (c .users) (c .roles) (policyOf i))) 0 (f .read)))
-      (and-join (isTakenOk c i) (isTidy i && isPlaced c i)
+      (and-join (isTakenOk c i) (isTidy i && (isPlaced c i && isLettered i))
       (and-join (leb (i .taken) 12) actions-test (le-leb (i .taken) 12 (f .taken-most)) (f .actions-ok))
-      (and-join (isTidy i) (isPlaced c i) (and-join words-test places-test (f .words-zero) (f .places-idle)) (f .placed)))
+      (and-join (isTidy i) (isPlaced c i && isLettered i) (and-join words-test places-test (f .words-zero) (f .places-idle))
+      (and-join (isPlaced c i) (isLettered i) (f .placed) (f .lettered))))
 
   formed-clear : InstanceFormed c i → Clear (refusals (c .users) (c .roles) (policyOf i))
   formed-clear f = clear (refusals (c .users) (c .roles) (policyOf i)) refl (f .read)

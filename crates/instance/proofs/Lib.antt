@@ -3,3 +3,4 @@ pub mod Checks
 pub mod Formed
 pub mod Stepping
 pub mod Placing
+pub mod Lettering

@@ -1,5 +1,6 @@
--- The instance: a policy, a workflow and its present state, the actions taken under them and the closed mark, over a configuration.
-use mathlib.Core.Bool.{Bool, not, _&&_, cond}
+-- The instance: a policy, a workflow and its present state, the actions taken under them, the closed mark and the letter of the status, over
+-- a configuration.
+use mathlib.Core.Bool.{Bool, not, _&&_, _||_, cond}
 use mathlib.Core.List.{List, []}
 use Prim.Native.Nat.{ℕ, _+_}
 use lib.Bits.{bitAnd}
@@ -18,6 +19,7 @@ use Rattle.configuration.specs.declared.Configuration.{Configuration}
 use Rattle.instance.specs.declared.Instance.{Instance}
 use Rattle.instance.specs.declared.Check.{Check}
 use Rattle.configuration.specs.Configurations.{held, isZero}
+use Rattle.instance.specs.Letters.{letterD, letterC, letterO}
 
 -- ── its parts ──
 abbrev pub policyOf : Instance → List ℕ
@@ -43,12 +45,13 @@ noAction = record { user = 0; met = 0 }
 
 -- all zero
 abbrev pub noInstance : Instance
-noInstance = record { policy = replicate 31 0; actions = replicate 12 noAction; workflow = noWorkflow; words = 0; taken = 0; closed = 0; state = 0 }
+noInstance = record { policy = replicate 31 0; actions = replicate 12 noAction; workflow = noWorkflow; words = 0; taken = 0; closed = 0; status = 0; state = 0 }
 
--- under these words and this workflow, in state 0: no action, and not closed; policy words past its length are zero
+-- under these words and this workflow, in state 0: no action, not closed, and (document 02, E6) "Opening sets it to `o`"; policy words past
+-- its length are zero
 abbrev pub instanceOf : List ℕ → Workflow → Instance
 instanceOf words w =
-    record { policy = padded 31 words; actions = replicate 12 noAction; workflow = w; words = length words; taken = 0; closed = 0; state = 0 }
+    record { policy = padded 31 words; actions = replicate 12 noAction; workflow = w; words = length words; taken = 0; closed = 0; status = letterO; state = 0 }
 
 -- ── what is noted ──
 -- of an action by user u, who holds these roles: bit i for the unit term at word i
@@ -69,10 +72,24 @@ withAction i a s = record {
   words = i .words;
   taken = i .taken + 1;
   closed = i .closed;
+  status = i .status;
   state = s;
 }
 
--- a close the mark
+-- .. and the letter l of the status
+abbrev pub withStatus : Instance → ℕ → Instance
+withStatus i l = record {
+  policy = i .policy;
+  actions = i .actions;
+  workflow = i .workflow;
+  words = i .words;
+  taken = i .taken;
+  closed = i .closed;
+  status = l;
+  state = i .state;
+}
+
+-- a close the mark, and it "sets `d`"
 abbrev pub asClosed : Instance → Instance
 asClosed i = record {
   policy = i .policy;
@@ -81,6 +98,7 @@ asClosed i = record {
   words = i .words;
   taken = i .taken;
   closed = 1;
+  status = letterD;
   state = i .state;
 }
 
@@ -110,8 +128,13 @@ isPlaced c i =
     workflowOk (i .workflow)
     && cond (hasWorkflow i) (ltb (i .state) (i .workflow .states)) (isZero (i .state) && all isZero (c .permissions))
 
+-- document 02, E6: not so "when the letter is none of the three, is `d` without the closed mark or the reverse, or is not `o` on an unclosed
+-- sheet with no action"
+abbrev pub isLettered : Instance → Bool
+isLettered i = cond (isClosed i) (eqb (i .status) letterD) (eqb (i .status) letterO || (eqb (i .status) letterC && not (isZero (i .taken))))
+
 unfoldable pub instanceOk : Configuration → Instance → Bool
-instanceOk c i = isReadable c i && (isTakenOk c i && (isTidy i && isPlaced c i))
+instanceOk c i = isReadable c i && (isTakenOk c i && (isTidy i && (isPlaced c i && isLettered i)))
 
 -- whether it is so, and then what user u meets
 abbrev pub checkIn : Bool → ℕ → Check

@@ -8,7 +8,8 @@ use Rattle.soda.specs.Workflows.{isSomewhere}
 use Rattle.soda.specs.declared.Action.{Action}
 use Rattle.configuration.specs.declared.Configuration.{Configuration}
 use Rattle.instance.specs.declared.Instance.{Instance}
-use Rattle.instance.specs.Instances.{takenOf, isPlaced, withAction}
+use Rattle.instance.specs.Letters.{isLetter}
+use Rattle.instance.specs.Instances.{takenOf, isPlaced, withAction, isLettered}
 use Rattle.instance.specs.Steps.{leadsTo, stateOf}
 
 -- An action that is taken stands behind the taken ones.
@@ -20,3 +21,7 @@ abbrev pub StepStaysPlaced : Type 0
 StepStaysPlaced =
     (c : Configuration) (i : Instance) (x : Action) (a : ℕ) → So (isPlaced c i) → So (isSomewhere (leadsTo i a))
     → So (isPlaced c (withAction i x (stateOf (leadsTo i a))))
+
+-- A letter that goes with the mark is one of the three.
+abbrev pub LetteredIsLetter : Type 0
+LetteredIsLetter = (i : Instance) → So (isLettered i) → So (isLetter (i .status))

@@ -1,3 +1,4 @@
+pub mod Letters
 pub mod Instances
 pub mod Steps
 pub mod Candidates

@@ -1,13 +1,15 @@
-// The instance: as it starts under a policy, an action taken, a close, and its part of number 15.
+// The instance: as it starts under a policy, an action taken, its status worked out, a close, and its part of number 15.
 ghost use mathlib.Core.Path.{_≡_};
 ghost use mathlib.Core.Bool.{_&&_, cond};
 ghost use Prim.Native.Nat.{_≤_};
 ghost use lib.Dec.{leb, ltb};
 ghost use lib.ListN.{length, take, drop};
 ghost use Rattle.soda.specs.Lists.{all};
-ghost use Rattle.instance.specs.Instances.{takenOf, isClosed, noInstance, instanceOf, withAction, asClosed, isIdle, actionOk, isTidy, isPlaced, checkOf};
+ghost use Rattle.instance.specs.Letters.{openLetter};
+ghost use Rattle.instance.specs.Instances.{takenOf, isClosed, noInstance, instanceOf, withAction, withStatus, asClosed, isIdle, actionOk, isTidy, isPlaced, isLettered, checkOf};
 use super::Check;
 use super::Instance;
+use super::letters;
 use super::lists::padded_words;
 use super::lists::zero_words;
 use configuration::Configuration;
@@ -79,11 +81,12 @@ impl Instance {
         words: 0,
         taken: 0,
         closed: 0,
+        status: 0,
         state: 0,
     };
 
-    // An instance under a policy of these words and a workflow, which is in its first state: no action, not closed. All zero for more words
-    // than a policy has.
+    // An instance under a policy of these words and a workflow, which is in its first state: no action, not closed, and open. All zero for more
+    // words than a policy has.
     pub fn under(words: &[u32], workflow: Workflow) -> Self
         ensures { λ r. ⌜ r ≡ cond (leb (length (now (words .entry))) 31) (instanceOf (now (words .entry)) workflow) noInstance ⌝ }
     {
@@ -95,9 +98,10 @@ impl Instance {
             policy,
             actions: [Action { user: 0, met: 0 }; 12],
             workflow,
-            words: words.len() as u16,
+            words: words.len() as u8,
             taken: 0,
             closed: OPEN,
+            status: letters::OPEN,
             state: 0,
         }
     }
@@ -124,12 +128,26 @@ impl Instance {
         next
     }
 
-    // The mark is set.
+    // The letter is that of an instance which is not closed and whose taken actions satisfy the policy, or do not.
+    pub fn with_status(self, satisfied: bool) -> Self
+        ensures { λ r. ⌜ r ≡ withStatus self (openLetter satisfied) ⌝ }
+    {
+        let mut next = self;
+        next.status = if satisfied {
+            letters::COMPLETE
+        } else {
+            letters::OPEN
+        };
+        next
+    }
+
+    // The mark is set, and the letter with it.
     pub fn as_closed(self) -> Self
         ensures { λ r. ⌜ r ≡ asClosed self ⌝ }
     {
         let mut next = self;
         next.closed = CLOSED;
+        next.status = letters::CLOSED;
         next
     }
 
@@ -173,8 +191,19 @@ impl Instance {
         configuration.gives_nothing()
     }
 
-    // Whether the policy would be accepted, the taken actions and the workflow are as they must be, and what is unused is zero; and what a
-    // user meets.
+    // Whether the letter goes with the mark: closed with the mark alone, complete with an action alone.
+    fn is_lettered(self) -> bool
+        ensures { λ r. ⌜ r ≡ isLettered self ⌝ }
+    {
+        let status = self.status;
+        if self.is_closed() {
+            return status == letters::CLOSED;
+        }
+        (status == letters::OPEN) | ((status == letters::COMPLETE) & (self.taken != 0))
+    }
+
+    // Whether the policy would be accepted, the taken actions, the workflow and the letter are as they must be, and what is unused is zero; and
+    // what a user meets.
     pub fn check(self, configuration: Configuration, user: u8) -> Check
         ensures { λ r. ⌜ r ≡ checkOf configuration self user ⌝ }
     {
@@ -194,6 +223,9 @@ impl Instance {
             return Check::FAILED;
         }
         if !self.is_placed(configuration) {
+            return Check::FAILED;
+        }
+        if !self.is_lettered() {
             return Check::FAILED;
         }
         Check {

@@ -2,6 +2,7 @@
 
 mod enabling;
 mod instances;
+pub mod letters;
 mod lists;
 mod steps;
 
@@ -9,16 +10,17 @@ use soda::Action;
 use workflow::Workflow;
 
 // An instance: the policy, the taken actions in order of arrival, the workflow, the policy's word count, the number of the actions, the
-// closed mark: 0 is open, every other value closed, and the workflow's present state. Words and places past their numbers are zero, and
-// without a workflow it, its state and the configuration's permissions are zero too.
+// closed mark: 0 is open, every other value closed, the letter of its status, and the workflow's present state. Words and places past their
+// numbers are zero, and without a workflow it, its state and the configuration's permissions are zero too.
 #[repr(C)]
 pub struct Instance {
     pub policy: [u32; 31],
     pub actions: [Action; 12],
     pub workflow: Workflow,
-    pub words: u16,
+    pub words: u8,
     pub taken: u8,
     pub closed: u8,
+    pub status: u8,
     pub state: u32,
 }
 

@@ -18,9 +18,9 @@ use Rattle.instance.specs.declared.Instance.{Instance}
 use Rattle.monitor.specs.declared.Event.{Event}
 use Rattle.monitor.specs.declared.Event.the-variants.{Acts, Grants, Revokes, Closes, Malformed}
 use Rattle.configuration.specs.Configurations.{held, withRow, withGrant, withoutGrant}
-use Rattle.instance.specs.Instances.{noAction, notedFor, withAction, asClosed}
+use Rattle.instance.specs.Instances.{noAction, notedFor, withAction, withStatus, asClosed}
 use Rattle.instance.specs.Steps.{leadsTo, stateOf}
-use Rattle.monitor.specs.Events.{eventIn, ownRefusals, applied, eventCode, outcome}
+use Rattle.monitor.specs.Events.{isShort, eventIn, ownRefusals, applied, eventCode, outcome}
 use Rattle.monitor.specs.Laws.{Passed}
 use Rattle.monitor.specs.Effects.{ActionAlone, BitAlone, MarkAlone, OwnPart, AcceptedAltersItsPart, HeldAltersNothing, RefusalAltersNothing}
 use Rattle.monitor.specs.Private.{Entered}
@@ -30,11 +30,12 @@ use Rattle.monitor.proofs.Reading.{declared, entered}
 use Rattle.monitor.proofs.Order.{accepted-has-passed, workspace-kept}
 
 module _ (i : Instance) where
-  action-alone : (a : Action) (s : ℕ) → i .taken < length (i .actions) → ActionAlone i a s (withAction i a s)
-  action-alone a s h = record {
+  action-alone : (a : Action) (s l : ℕ) → i .taken < length (i .actions) → ActionAlone i a s l (withStatus (withAction i a s) l)
+  action-alone a s l h = record {
     same-policy = refl;
     same-workflow = refl;
     moved = refl;
+    lettered = refl;
     same-mark = refl;
     one-more = refl;
     here = getD-set-same (i .actions) (i .taken) a noAction h;
@@ -42,7 +43,7 @@ module _ (i : Instance) where
   }
 
   mark-alone : MarkAlone i (asClosed i)
-  mark-alone = record { same-policy = refl; same-workflow = refl; same-state = refl; same-actions = refl; same-number = refl; here = refl }
+  mark-alone = record { same-policy = refl; same-workflow = refl; same-state = refl; same-actions = refl; same-number = refl; here = refl; lettered = refl }
 
 module _ (c : Configuration) where
   -- a row that differs from the one before in bit r alone
@@ -91,14 +92,14 @@ pub accepted-alters-its-part : AcceptedAltersItsPart
 unfolding outcome
 accepted-alters-its-part m w before n z =
     let e = eventIn m w in
-    let p = accepted-has-passed m e (length before) z in
+    let p = accepted-has-passed m e (isShort w (length before)) z in
     let c = m .configuration in
     rw z (go e p (entered c e (declared (c .users) (c .roles) w) (p .in-layout)))
   where
-    go : (e : Event) → Passed m e (length before) → Entered (m .configuration) e → OwnPart m e (applied m e)
+    go : (e : Event) → Passed m e (isShort w (length before)) → Entered (m .configuration) e → OwnPart m e (applied m e)
     go (Acts u a) p d =
         let k = clear (ownRefusals (m .configuration) (m .instance) (Acts u a)) refl (p .own) in
-        (refl, action-alone (m .instance) (notedFor (m .configuration) (m .instance) u) (stateOf (leadsTo (m .instance) a)) (omega (arith, leb-false 12 (m .instance .taken) (k .1 .1 .0))))
+        (refl, action-alone (m .instance) (notedFor (m .configuration) (m .instance) u) (stateOf (leadsTo (m .instance) a)) _ (omega (arith, leb-false 12 (m .instance .taken) (k .1 .1 .0))))
     go (Grants u r) p d = (refl, grant-alone (m .configuration) u r (omega (arith, d .0, users-within (m .configuration) (formed m (p .is-well) .in-configuration))))
     go (Revokes u r) p d = (refl, revoke-alone (m .configuration) u r (omega (arith, d .0, users-within (m .configuration) (formed m (p .is-well) .in-configuration))))
     go Closes p d = (refl, mark-alone (m .instance))
@@ -109,4 +110,4 @@ unfolding outcome
 refusal-alters-nothing m w before ne =
     let e = eventIn m w in
     let k = eventCode m w (length before) in
-    (rw (ne-eqb k 0 ne), λ p q. workspace-kept (m .configuration) (m .instance) e before k (ne-eqb k 0 ne) (ne-eqb k 9 p) (ne-eqb k 11 q))
+    (rw (ne-eqb k 0 ne), λ p. workspace-kept (m .configuration) (m .instance) e before k (ne-eqb k 0 ne) (ne-eqb k 9 p))

@@ -16,6 +16,7 @@ use Rattle.soda.proofs.Bools.{by-test, and-split, so-lt, so-eq, eq-so, lt-or-le
 use Rattle.soda.proofs.Bits.{bit-number}
 use Rattle.soda.proofs.Lists.{range-length, map-below, map-same}
 use Rattle.policy.specs.Codes.{FULL, NOT-POSSIBLE, CLOSED, NOT-AUTHORIZED, NO-TRANSITION}
+use Rattle.policy.specs.Kinds.{CLOSE}
 use Rattle.policy.specs.Refusals.{code}
 use Rattle.workspace.specs.Workspace.{filled}
 use Rattle.workspace.specs.Trials.{Trials}
@@ -31,12 +32,12 @@ use Rattle.monitor.specs.declared.Monitor.{Monitor}
 use Rattle.monitor.specs.declared.Event.{Event}
 use Rattle.monitor.specs.declared.Event.the-variants.{Acts, Malformed}
 use Rattle.monitor.specs.declared.Enabled.the-variants.{Users, Refused}
-use Rattle.monitor.specs.Monitors.{admission}
-use Rattle.monitor.specs.Events.{readEvent, eventIn, isMalformed, tried, eventCode, entry, workspaceAfter, Outcome, outcome}
+use Rattle.monitor.specs.Monitors.{wellFormed, admission}
+use Rattle.monitor.specs.Events.{readEvent, isShort, eventIn, isMalformed, tried, eventCode, entry, workspaceAfter, Outcome, outcome}
 use Rattle.monitor.specs.Enabled.{actionWord, mayAct, enabledMask, getsTrial, behindTrials, leftBy, enabledOf, BitIsAction, NoOtherBit, ClosedOrFullIsNobody, RefusalKeepsMask}
 use Rattle.monitor.specs.Private.{eachTried, monitorOutcome}
 use Rattle.monitor.proofs.Formed.{formed}
-use Rattle.monitor.proofs.Order.{admits, accepted-has-passed, not-admitted, not-entered, performed}
+use Rattle.monitor.proofs.Order.{admits, accepted-has-passed, not-admitted, not-entered, performed, close-asks-no-workspace}
 use Rattle.monitor.proofs.Effects.{refusal-alters-nothing}
 use Rattle.monitor.proofs.Candidates.{and-false, behind, behind-declared, past, last-is, can-act, triedTo, each-tried}
 
@@ -45,7 +46,7 @@ module _ (u a : ℕ) (h : u < 256) (k : a < 256) where
   no-high : actionWord u a / 2 ^ 16 % 2 ^ 8 ≡ 0
   no-high = omega arith
 
-  its-kind : actionWord u a / 2 ^ 24 ≡ 1
+  pub its-kind : actionWord u a / 2 ^ 24 ≡ 1
   its-kind = omega arith
 
   its-user : actionWord u a / 2 ^ 8 % 2 ^ 8 ≡ u
@@ -96,21 +97,47 @@ module _ (m : Monitor) (n a : ℕ) where
 untouched : (m : Monitor) (a : ℕ) (before : List ℕ) → ((w : ℕ) → before ≡ outcome m w before .workspace) → (k : ℕ) → before ≡ leftBy m k a before
 untouched m a before h k = by-test (eqb k 0) (λ t. rw t) (λ f. rw f (h (actionWord (k - 1) a)))
 
+-- ── 12 and 15, for each word as for the call ──
+abbrev tooShort : List ℕ → Bool
+tooShort before = ltb (length before) 8192
+
+-- where the call is admitted, a word is
+module _ (m : Monitor) (before : List ℕ) (ok : code (admission m (tooShort before)) ≡ 0) where
+  word-admitted : (w : ℕ) → code (admission m (isShort w (length before))) ≡ 0
+  word-admitted w = subst (λ b. code (admission m b) ≡ 0) (sym (is (admits m (tooShort before) ok .0))) ok
+    where
+      is : tooShort before ≡ false → isShort w (length before) ≡ tooShort before
+      is f = rw f (and-false (not (eqb (w / 2 ^ 24) CLOSE)))
+
 -- where 12 or 15 applies, nothing is judged
-module _ (m : Monitor) (before : List ℕ) (ne : code (admission m (length before)) ≢ 0) where
-  refused-all : (w : ℕ) → eventCode m w (length before) ≢ 0
-  unfolding outcome
-  refused-all w e = ne (ap (λ (o : Outcome). o .code) (not-admitted m w before ne) ∙ e)
+module _ (m : Monitor) (before : List ℕ) (ne : code (admission m (tooShort before)) ≢ 0) where
+  not-so-for : (w : ℕ) → isShort w (length before) ≡ tooShort before → code (admission m (isShort w (length before))) ≢ 0
+  not-so-for w e = subst (λ b. code (admission m b) ≢ 0) (sym e) ne
 
   refused-left : (w : ℕ) → before ≡ outcome m w before .workspace
-  refused-left w = ap (λ (o : Outcome). o .workspace) (not-admitted m w before ne)
+  refused-left w = by-test (eqb (w / 2 ^ 24) CLOSE)
+      (λ t. sym (close-asks-no-workspace m w before before (so-eq (w / 2 ^ 24) CLOSE t) .untouched))
+      (λ f. ap (λ (o : Outcome). o .workspace) (not-admitted m w before (not-so-for w (rw f))))
 
-  pub enabled-refused : (a : ℕ) → record { answer = Refused (code (admission m (length before))); workspace = before } ≡ enabledOf m a before
+  -- a word that is not admitted is not accepted
+  refused : (w : ℕ) → code (admission m (isShort w (length before))) ≢ 0 → eventCode m w (length before) ≢ 0
+  unfolding outcome
+  refused w p e = p (ap (λ (o : Outcome). o .code) (not-admitted m w before p) ∙ e)
+
+  refused-all : (u a : ℕ) → u < m .configuration .users → a < 256 → eventCode m (actionWord u a) (length before) ≢ 0
+  refused-all u a d byte = refused (actionWord u a) (by-test (wellFormed m)
+      (λ t. not-so-for (actionWord u a) (asks t))
+      (λ f z. true≢false (sym (admits m (isShort (actionWord u a) (length before)) z .1) ∙ f)))
+    where
+      asks : So (wellFormed m) → isShort (actionWord u a) (length before) ≡ tooShort before
+      asks t = rw (its-kind u a (omega (arith, d, users-most (m .configuration) (formed m t .in-configuration))) byte)
+
+  pub enabled-refused : (a : ℕ) → record { answer = Refused (code (admission m (tooShort before))); workspace = before } ≡ enabledOf m a before
   unfolding enabledOf
-  enabled-refused a = ap₂ (λ b w. record { answer = cond b (Users (enabledMask m (length before) a)) (Refused (code (admission m (length before)))); workspace = w })
-      (sym (ne-eqb (code (admission m (length before))) 0 ne)) (untouched m a before refused-left (behindTrials m (length before) a))
+  enabled-refused a = ap₂ (λ b w. record { answer = cond b (Users (enabledMask m (length before) a)) (Refused (code (admission m (tooShort before)))); workspace = w })
+      (sym (ne-eqb (code (admission m (tooShort before))) 0 ne)) (untouched m a before refused-left (behindTrials m (length before) a))
 
-module _ (m : Monitor) (before : List ℕ) (ok : code (admission m (length before)) ≡ 0) (a : ℕ) where
+module _ (m : Monitor) (before : List ℕ) (ok : code (admission m (tooShort before)) ≡ 0) (a : ℕ) where
   -- the answer, from what it is put together from
   put : (mask : ℕ) (after : List ℕ) → mask ≡ enabledMask m (length before) a → after ≡ leftBy m (behindTrials m (length before) a) a before
       → record { answer = Users mask; workspace = after } ≡ enabledOf m a before
@@ -122,7 +149,7 @@ module _ (m : Monitor) (before : List ℕ) (ok : code (admission m (length befor
     not-entered-all : (w : ℕ) → record { code = CLOSED; monitor = m; workspace = before } ≡ outcome m w before
     not-entered-all w =
         let z : code (entry (m .instance) (eventIn m w)) ≡ CLOSED = rw closed in
-        subst (λ k. record { code = k; monitor = m; workspace = before } ≡ outcome m w before) z (not-entered m w before ok (λ e. absurd (omega (arith, sym z ∙ e))))
+        subst (λ k. record { code = k; monitor = m; workspace = before } ≡ outcome m w before) z (not-entered m w before (word-admitted m before ok w) (λ e. absurd (omega (arith, sym z ∙ e))))
 
     closed-left : before ≡ leftBy m (behindTrials m (length before) a) a before
     closed-left = untouched m a before (λ w. ap (λ (o : Outcome). o .workspace) (not-entered-all w)) (behindTrials m (length before) a)
@@ -144,13 +171,13 @@ module _ (m : Monitor) (before : List ℕ) (ok : code (admission m (length befor
     i = m .instance
 
     few : c .users ≤ 16
-    few = users-most c (formed m (admits m (length before) ok .1) .in-configuration)
+    few = users-most c (formed m (admits m (tooShort before) ok .1) .in-configuration)
 
     acted : (u : ℕ) → u < c .users → monitorOutcome m (Acts u a) before ≡ outcome m (actionWord u a) before
     acted u h =
         let is : eventIn m (actionWord u a) ≡ Acts u a = read-action u a (omega (arith, few)) byte (c .users) (c .roles) ∙ rw (lt-ltb u (c .users) h) in
         let enters : code (entry i (eventIn m (actionWord u a))) ≡ 0 = ap (λ e. code (entry i e)) is ∙ rw is-open in
-        subst (λ e. monitorOutcome m e before ≡ outcome m (actionWord u a) before) is (performed m (actionWord u a) before ok enters)
+        subst (λ e. monitorOutcome m e before ≡ outcome m (actionWord u a) before) is (performed m (actionWord u a) before (word-admitted m before ok (actionWord u a)) enters)
 
     abbrev its-code : ℕ → ℕ
     its-code u = numbered (isAuthorized c i u a) (isSomewhere (leadsTo i a)) (leb 12 (i .taken)) (possible (term i) 0 (tried c i u))
@@ -240,13 +267,15 @@ module _ (m : Monitor) (before : List ℕ) (ok : code (admission m (length befor
 pub closed-or-full-is-nobody : ClosedOrFullIsNobody
 unfolding enabledOf
 closed-or-full-is-nobody m a before byte h =
-    by-test (eqb (code (admission m (length before))) 0)
-    (λ e. admitted (so-eq (code (admission m (length before))) 0 e))
-    (λ e. let ne : code (admission m (length before)) ≢ 0 = λ z. true≢false (sym (eq-so (code (admission m (length before))) 0 z) ∙ e) in
-    (nobody m (length before) a (λ u b. refused-all m before ne (actionWord u a)), sym (untouched m a before (refused-left m before ne) (behindTrials m (length before) a))))
+    by-test (eqb first 0)
+    (λ e. admitted (so-eq first 0 e))
+    (λ e. let ne : first ≢ 0 = λ z. true≢false (sym (eq-so first 0 z) ∙ e) in
+    (nobody m (length before) a (λ u b. refused-all m before ne u a b byte), sym (untouched m a before (refused-left m before ne) (behindTrials m (length before) a))))
   where
-    admitted : code (admission m (length before)) ≡ 0
-        → (enabledMask m (length before) a ≡ 0) × (leftBy m (behindTrials m (length before) a) a before ≡ before)
+    first : ℕ
+    first = code (admission m (tooShort before))
+
+    admitted : first ≡ 0 → (enabledMask m (length before) a ≡ 0) × (leftBy m (behindTrials m (length before) a) a before ≡ before)
     admitted ok =
         by-test (isClosed (m .instance))
         (λ k. (closed-nobody m before ok a k, sym (closed-left m before ok a k)))
@@ -274,7 +303,7 @@ bit-is-action m n u a h k = by (lt-or-le u (m .configuration .users))
 
     by : (u < m .configuration .users) ⊎ (m .configuration .users ≤ u) → bit u (enabledMask m n a) ≡ eqb (eventCode m (actionWord u a) n) 0
     by (inl d) = bit-number (map (mayAct m n a) (range 0 (m .configuration .users))) u ∙ map-below (mayAct m n a) false (m .configuration .users) u d
-    by (inr d) = no-other-bit m n u a d ∙ sym (ne-eqb (eventCode m (actionWord u a) n) 0 (λ z. undeclared d (accepted-has-passed m e n z .in-layout)))
+    by (inr d) = no-other-bit m n u a d ∙ sym (ne-eqb (eventCode m (actionWord u a) n) 0 (λ z. undeclared d (accepted-has-passed m e (isShort (actionWord u a) n) z .in-layout)))
 
 pub refusal-keeps-mask : RefusalKeepsMask
 refusal-keeps-mask m w before n a ne = ap (λ x. enabledMask x n a) (refusal-alters-nothing m w before ne .0)

@@ -13,3 +13,5 @@ pub mod Fillable
 pub mod Candidates
 pub mod Enabling
 pub mod Unordered
+-- The letter that is kept.
+pub mod Letters

@@ -1,7 +1,7 @@
 -- Each part of a well-formed monitor stays as it has to be: rows below their limit under a bit set or cleared, noted bits among
 -- those of unit terms, unused places zero.
 use mathlib.Core.Path.{_≡_, refl, sym, ap, ap₂, _∙_}
-use mathlib.Core.Bool.{Bool, true, false, So, _&&_, cond}
+use mathlib.Core.Bool.{Bool, true, false, So, _&&_, _||_, cond}
 use mathlib.Core.List.{List, [], _∷_, map}
 use mathlib.Core.Option.{Option, some, none}
 use Prim.Native.Nat.{ℕ, zero, suc, _+_, _-_, _*_, _^_, _<_}
@@ -12,11 +12,12 @@ use lib.Dec.{ltb, eqb}
 use lib.ListN.{length, getD, take, drop, set as put, replicate, length-set}
 use lib.Pow.{pow-lt}
 use lib.Seq.{take-set-lt, drop-set-lt, drop-cons, getD-take, take-append-seam, drop-append-seam}
-use borrow.Author.Tests.{eqb-false, leb-false, not-true, not-false}
+use borrow.Author.Tests.{eqb-false, ne-eqb, leb-false, not-true, not-false}
 use Rattle.soda.specs.Bits.{number, setBit, clearBit}
 use Rattle.soda.specs.Lists.{all, padded}
 use Rattle.soda.specs.Terms.{Term, unit, subterms}
 use Rattle.soda.specs.Roles.{meets}
+use Rattle.soda.specs.Tables.{satisfied}
 use Rattle.soda.specs.Workflows.{isSomewhere}
 use Rattle.soda.proofs.Bools.{and-split, and-join, so-lt, lt-so, eq-so, so-eq, by-test}
 use Rattle.soda.proofs.Splits.{split-append, all-parts, all-replicate}
@@ -33,10 +34,11 @@ use Rattle.workflow.specs.Workflows.{isGiven, workflowOk}
 use Rattle.workflow.specs.Laws.{Read}
 use Rattle.workflow.proofs.Formed.{read-is-formed}
 use Rattle.configuration.specs.Configurations.{assignment, held, withPermissions, withRow, isZero, configurationOf}
-use Rattle.instance.specs.Instances.{policyOf, takenOf, notedFor, withAction, instanceOf, actionOk, isIdle, noAction, isPlaced}
+use Rattle.instance.specs.Letters.{letterC, letterO, openLetter}
+use Rattle.instance.specs.Instances.{policyOf, takenOf, term, isClosed, notedFor, instanceOf, actionOk, isIdle, noAction, isPlaced}
 use Rattle.instance.specs.Steps.{leadsTo, stateOf}
 use Rattle.monitor.specs.Monitors.{Opening, secure, openCode, fresh}
-use Rattle.monitor.specs.Events.{eventIn, ownRefusals, applied, outcome}
+use Rattle.monitor.specs.Events.{isShort, eventIn, tried, ownRefusals, advanced, applied, outcome}
 use Rattle.monitor.specs.Laws.{Passed}
 use Rattle.monitor.specs.Effects.{OpenedIsWellFormed, AcceptedStaysWellFormed, EventKeepsWellFormed}
 use Rattle.monitor.specs.Private.{Entered}
@@ -126,11 +128,12 @@ module _ (c : Configuration) (i : Instance) (f : InstanceFormed c i) where
     words-zero = f .words-zero;
     places-idle = f .places-idle;
     placed = f .placed;
+    lettered = f .lettered;
   }
 
-  action-formed : (u a : ℕ) → u < c .users → So (isSomewhere (leadsTo i a)) → i .taken < 12 → length (i .actions) ≡ 12
-      → InstanceFormed c (withAction i (notedFor c i u) (stateOf (leadsTo i a)))
-  action-formed u a l goes free n = record {
+  action-formed : (u a : ℕ) → u < c .users → So (isSomewhere (leadsTo i a)) → i .taken < 12 → length (i .actions) ≡ 12 → isClosed i ≡ false
+      → InstanceFormed c (advanced c i (Acts u a))
+  action-formed u a l goes free n is-open = record {
     words-most = f .words-most;
     read = f .read;
     taken-most = omega arith;
@@ -148,7 +151,13 @@ module _ (c : Configuration) (i : Instance) (f : InstanceFormed c i) where
         rw (drop-set-lt (t + 1) (i .actions) t (notedFor c i u) (omega arith), add-one)
         (and-split (isIdle (getD (i .actions) t noAction)) (all isIdle (drop (suc t) (i .actions))) (rw (drop-cons (i .actions) t noAction within) at (f .places-idle)) .1);
     placed = step-stays-placed c i (notedFor c i u) a (f .placed) goes;
+    lettered = rw (is-open, ne-eqb (i .taken + 1) 0 (λ z. absurd (omega (arith, z)))) (one-of-two (satisfied (term i) 0 (tried c i u)));
   }
+    where
+      -- the letter of one that is not closed
+      one-of-two : (b : Bool) → So (eqb (openLetter b) letterO || (eqb (openLetter b) letterC && true))
+      one-of-two true = refl
+      one-of-two false = refl
 
 -- ── the statements ──
 zeros : (k : ℕ) → So (all isZero (replicate k 0))
@@ -194,6 +203,7 @@ module _ (o : Opening) (e : openCode o ≡ 0) where
     words-zero = rw (drop-append-seam (o .words) (replicate (31 - length (o .words)) 0)) (zeros (31 - length (o .words)));
     places-idle = refl;
     placed = opened-placed;
+    lettered = refl;
   }
 
 pub opened-is-well-formed : OpenedIsWellFormed
@@ -205,16 +215,16 @@ unfolding outcome
 accepted-stays-well-formed m w before n z =
     let e = eventIn m w in
     let c = m .configuration in
-    let p = accepted-has-passed m e (length before) z in
+    let p = accepted-has-passed m e (isShort w (length before)) z in
     rw z (is-formed (applied m e) (go e p (formed m (p .is-well)) (entered c e (declared (c .users) (c .roles) w) (p .in-layout))))
   where
-    go : (e : Event) → Passed m e (length before) → Formed m → Entered (m .configuration) e → Formed (applied m e)
+    go : (e : Event) → Passed m e (isShort w (length before)) → Formed m → Entered (m .configuration) e → Formed (applied m e)
     go (Acts u a) p f d =
         let k = clear (ownRefusals (m .configuration) (m .instance) (Acts u a)) refl (p .own) in
         record {
           in-configuration = f .in-configuration;
           in-instance = action-formed (m .configuration) (m .instance) (f .in-instance) u a d (not-false (isSomewhere (leadsTo (m .instance) a)) (k .1 .0))
-              (omega (arith, leb-false 12 (m .instance .taken) (k .1 .1 .0))) n;
+              (omega (arith, leb-false 12 (m .instance .taken) (k .1 .1 .0))) n (p .is-open);
         }
     go (Grants u r) p f d =
         let c = m .configuration in
@@ -238,6 +248,7 @@ accepted-stays-well-formed m w before n z =
         words-zero = f .in-instance .words-zero;
         places-idle = f .in-instance .places-idle;
         placed = f .in-instance .placed;
+        lettered = refl;
       };
     }
     go Malformed p f d = absurd d

@@ -4,7 +4,7 @@ use mathlib.Core.Logic.{_≢_}
 use mathlib.Core.Bool.{Bool, false, So, not, _||_, cond}
 use mathlib.Core.List.{List, map}
 use Prim.Native.Nat.{ℕ, _+_, _-_, _*_, _^_, _≤_, _<_}
-use lib.Dec.{leb, eqb}
+use lib.Dec.{leb, ltb, eqb}
 use lib.ListN.{length}
 use Rattle.soda.specs.Bits.{bit, number}
 use Rattle.soda.specs.Lists.{range}
@@ -41,7 +41,7 @@ abbrev pub answered : ℕ → ℕ → Enabled
 answered k mask = cond (eqb k 0) (Users mask) (Refused k)
 
 abbrev pub enabledIn : Monitor → ℕ → ℕ → Enabled
-enabledIn m n a = answered (code (admission m n)) (enabledMask m n a)
+enabledIn m n a = answered (code (admission m (ltb n 8192))) (enabledMask m n a)
 
 -- a "person whose trial gets neither 16 nor 17"
 abbrev pub getsTrial : Monitor → ℕ → ℕ → ℕ → Bool

@@ -1,10 +1,13 @@
 -- What is proved of openings, well-formed monitors and events. Statements only.
 use mathlib.Core.Path.{_≡_}
-use mathlib.Core.Bool.{false, So, not}
+use mathlib.Core.Logic.{_≢_}
+use mathlib.Core.Bool.{Bool, false, So, not}
 use mathlib.Core.List.{List, [], _∷_}
-use Prim.Native.Nat.{ℕ, _≤_, _<_}
-use Rattle.soda.specs.Tables.{satisfied}
-use Rattle.policy.specs.Codes.{NOT-SATISFIED}
+use Prim.Native.Nat.{ℕ, _/_, _^_, _≤_, _<_}
+use lib.Dec.{eqb}
+use lib.ListN.{length}
+use Rattle.policy.specs.Codes.{NOT-SATISFIED, WORKSPACE}
+use Rattle.policy.specs.Kinds.{CLOSE}
 use Rattle.policy.specs.Refusals.{_gives_, code}
 use Rattle.policy.specs.Accepted.{IsPolicy}
 use Rattle.monitor.specs.declared.Monitor.{Monitor}
@@ -14,9 +17,11 @@ use Rattle.workflow.specs.Reading.{secureOk}
 use Rattle.configuration.specs.Configurations.{rowsOk}
 use Rattle.configuration.specs.declared.Configuration.{Configuration}
 use Rattle.instance.specs.declared.Instance.{Instance}
-use Rattle.instance.specs.Instances.{takenOf, term, hasWorkflow, isClosed}
+use Rattle.instance.specs.Letters.{letterC}
+use Rattle.instance.specs.Instances.{hasWorkflow, isClosed}
 use Rattle.monitor.specs.Monitors.{Opening, policy, openCode, fresh, opened, wellFormed, admission}
 use Rattle.monitor.specs.Events.{readEvent, isMalformed, trialRefusals, ownRefusals, eventRefusals, advanced, outcome}
+use Rattle.monitor.specs.Statuses.{letterOf}
 use Rattle.monitor.specs.Enabled.{actionWord}
 
 -- ── an accepted opening ──
@@ -36,12 +41,12 @@ abbrev pub OpenedSecureOk : Type 0
 OpenedSecureOk = (o : Opening) → openCode o ≡ 0 → So (secureOk (o .roles) (o .permissions) (o .workflow))
 
 -- ── a well-formed monitor ──
--- It holds at most twelve actions, and where the workspace is long enough, of length n, neither 12 nor 15 applies to it.
+-- It holds at most twelve actions, and where no workspace is too short neither 12 nor 15 applies to it.
 abbrev pub TwelveAtMost : Type 0
 TwelveAtMost = (m : Monitor) → So (wellFormed m) → m .instance .taken ≤ 12
 
 abbrev pub WellFormedIsAdmitted : Type 0
-WellFormedIsAdmitted = (m : Monitor) (n : ℕ) → 8192 ≤ n → So (wellFormed m) → code (admission m n) ≡ 0
+WellFormedIsAdmitted = (m : Monitor) → So (wellFormed m) → code (admission m false) ≡ 0
 
 -- ── events ──
 -- the users and roles that an event names are declared
@@ -56,9 +61,9 @@ Declared users roles Malformed = Unit
 abbrev pub ReadIsDeclared : Type 0
 ReadIsDeclared = (users roles w : ℕ) → Declared users roles (readEvent users roles w)
 
--- none of 12, 15, 10 and 7 applies to an event, and its own refusals give 0; n is the length of the workspace
-pub record Passed (m : Monitor) (e : Event) (n : ℕ) : Type 0 where
-  pub long : 8192 ≤ n
+-- none of 12, 15, 10 and 7 applies to an event, and its own refusals give 0
+pub record Passed (m : Monitor) (e : Event) (short : Bool) : Type 0 where
+  pub long : short ≡ false
   pub is-well : So (wellFormed m)
   pub is-open : isClosed (m .instance) ≡ false
   pub in-layout : isMalformed e ≡ false
@@ -66,14 +71,35 @@ pub record Passed (m : Monitor) (e : Event) (n : ℕ) : Type 0 where
 
 -- An accepted event has passed them all.
 abbrev pub AcceptedHasPassed : Type 0
-AcceptedHasPassed = (m : Monitor) (e : Event) (n : ℕ) → code (eventRefusals m e n) ≡ 0 → Passed m e n
+AcceptedHasPassed = (m : Monitor) (e : Event) (short : Bool) → code (eventRefusals m e short) ≡ 0 → Passed m e short
+
+-- A word of kind 4, in the layout or not, is never answered 12 and leaves the workspace as it is; what is answered and the monitor are the same
+-- for any other one.
+pub record AsksNoWorkspace (m : Monitor) (w : ℕ) (before before′ : List ℕ) : Type 0 where
+  pub never-12 : outcome m w before .code ≢ WORKSPACE
+  pub untouched : outcome m w before .workspace ≡ before
+  pub same-code : outcome m w before .code ≡ outcome m w before′ .code
+  pub same-monitor : outcome m w before .monitor ≡ outcome m w before′ .monitor
+
+abbrev pub CloseAsksNoWorkspace : Type 0
+CloseAsksNoWorkspace = (m : Monitor) (w : ℕ) (before before′ : List ℕ) → w / 2 ^ 24 ≡ CLOSE → AsksNoWorkspace m w before before′
+
+-- ── the letter ──
+-- An opened monitor has document 01's letter, and an event leaves it where it was there. (The places of an instance are always twelve.)
+abbrev pub OpenedHasLetter : Type 0
+OpenedHasLetter = (o : Opening) → fresh o .instance .status ≡ letterOf (fresh o .instance)
+
+abbrev pub EventKeepsLetter : Type 0
+EventKeepsLetter =
+    (m : Monitor) (w : ℕ) (before : List ℕ) → length (m .instance .actions) ≡ 12 → m .instance .status ≡ letterOf (m .instance)
+    → outcome m w before .monitor .instance .status ≡ letterOf (outcome m w before .monitor .instance)
 
 -- ── with neither permissions nor workflow ──
--- "every action is permitted and no final state is asked": an action's own refusals are 8 and 9, a close's that it does not satisfy, and the
--- state stays 0. So every answer is what it is without them in document 01.
+-- "every action is permitted and no final state is asked": an action's own refusals are 8 and 9, a close's that the letter is not `c`, and the
+-- state stays 0. So every answer is what it is without them.
 pub record Unordered (c : Configuration) (i : Instance) : Type 0 where
   pub action : (u a : ℕ) → code (ownRefusals c i (Acts u a)) ≡ code (trialRefusals c i u)
-  pub close : code (ownRefusals c i Closes) ≡ code ((not (satisfied (term i) 0 (takenOf i)) gives NOT-SATISFIED) ∷ [])
+  pub close : code (ownRefusals c i Closes) ≡ code ((not (eqb (i .status) letterC) gives NOT-SATISFIED) ∷ [])
   pub state : (u a : ℕ) → advanced c i (Acts u a) .state ≡ 0
 
 abbrev pub WithoutWorkflow : Type 0

@@ -2,7 +2,7 @@
 use mathlib.Core.Bool.{Bool, not, _&&_, cond}
 use mathlib.Core.List.{List, [], _∷_, _++_}
 use Prim.Native.Nat.{ℕ}
-use lib.Dec.{ltb, eqb}
+use lib.Dec.{eqb}
 use Rattle.soda.specs.Terms.{Term}
 use Rattle.policy.specs.Codes.{WORKFLOW, WORKSPACE, MONITOR}
 use Rattle.policy.specs.Refusals.{_gives_, code}
@@ -76,10 +76,15 @@ opened o = cond (eqb (openCode o) 0) (fresh o) blank
 abbrev pub opening : Opening → Opened
 opening o = record { code = codeIn o (openCode o); monitor = opened o }
 
--- ── number 15: exactly 01's list, and what 02's E4 adds to it ──
+-- ── number 15: exactly 01's list, and what 02's E4 and E6 add to it ──
 abbrev pub wellFormed : Monitor → Bool
 wellFormed m = configurationOk (m .configuration) && instanceOk (m .configuration) (m .instance)
 
--- ── 12, 15: what every call on a monitor asks first; n is the length of the workspace ──
-unfoldable pub admission : Monitor → ℕ → List (Bool × ℕ)
-admission m n = (ltb n 8192 gives WORKSPACE) ∷ (not (wellFormed m) gives MONITOR) ∷ []
+-- ── what every call on a monitor asks first ──
+-- 15
+abbrev pub monitorRefusals : Monitor → List (Bool × ℕ)
+monitorRefusals m = (not (wellFormed m) gives MONITOR) ∷ []
+
+-- 12, 15, where a workspace is asked for and whether it is too short
+unfoldable pub admission : Monitor → Bool → List (Bool × ℕ)
+admission m short = (short gives WORKSPACE) ∷ monitorRefusals m

@@ -23,10 +23,10 @@ use Rattle.instance.specs.declared.Step.the-variants.{To, Refused}
 use Rattle.monitor.specs.declared.monitors.Admission.{Admission}
 use Rattle.configuration.specs.Configurations.{held, configurationOk}
 use Rattle.monitor.specs.Monitors.{admission}
-use Rattle.instance.specs.Instances.{policyOf, takenOf, term, notedFor, withAction, instanceOk}
+use Rattle.instance.specs.Letters.{isLetter}
+use Rattle.instance.specs.Instances.{policyOf, takenOf, term, asClosed, instanceOk}
 use Rattle.instance.specs.Candidates.{isCandidate, candidatesOf}
-use Rattle.monitor.specs.Events.{tried, ownRefusals, advanced, applied, workspaceAfter, Outcome}
-use Rattle.monitor.specs.Statuses.{letterOf}
+use Rattle.monitor.specs.Events.{tried, closeRefusals, ownRefusals, taking, advanced, applied, workspaceAfter, Outcome}
 
 -- what is noted of user u
 abbrev pub Meets : Configuration → Instance → ℕ → ℕ → Type 0
@@ -38,8 +38,8 @@ pub record Checked (c : Configuration) (i : Instance) (u : ℕ) (ok : Bool) (r :
   pub meets : So ok → Meets c i u (r .met)
 
 -- 12, 15 or 0, and for 0 what user u meets
-pub record Admits (m : Monitor) (n u : ℕ) (r : Admission) : Type 0 where
-  pub number : r .code ≡ code (admission m n)
+pub record Admits (m : Monitor) (short : Bool) (u : ℕ) (r : Admission) : Type 0 where
+  pub number : r .code ≡ code (admission m short)
   pub meets : r .code ≡ 0 → Meets (m .configuration) (m .instance) u (r .met)
 
 -- the workspace can be filled for the taken actions
@@ -63,7 +63,12 @@ pub record Evaluated (i : Instance) (isSatisfied isPossible : Bool) (before afte
   pub is-possible : isPossible ≡ possible (term i) 0 (takenOf i)
   pub workspace : after ≡ filled (term i) (takenOf i) before
 
--- none of 12 and 15 applies to the two parts
+-- 15 does not apply to the two parts
+pub record Sound (c : Configuration) (i : Instance) : Type 0 where
+  pub configuration-ok : So (configurationOk c)
+  pub instance-ok : So (instanceOk c i)
+
+-- .. nor 12
 pub record Admitted (c : Configuration) (i : Instance) (before : List ℕ) : Type 0 where
   pub long : 8192 ≤ length before
   pub configuration-ok : So (configurationOk c)
@@ -76,6 +81,14 @@ Entered c (Grants u r) = (u < c .users) × (r < c .roles)
 Entered c (Revokes u r) = (u < c .users) × (r < c .roles)
 Entered c Closes = Unit
 Entered c Malformed = ⊥
+
+-- the workspace is long enough for an event; an action alone asks for one
+abbrev pub LongEnough : Event → List ℕ → Type 0
+LongEnough (Acts u a) before = 8192 ≤ length before
+LongEnough (Grants u r) before = Unit
+LongEnough (Revokes u r) before = Unit
+LongEnough Closes before = Unit
+LongEnough Malformed before = Unit
 
 -- the user who acts; 0 if the event is no action
 abbrev pub actor : Event → ℕ
@@ -93,17 +106,21 @@ Noting m (Revokes u r) met = Unit
 Noting m Closes met = Unit
 Noting m Malformed met = Unit
 
--- the status of an instance: its number and letter, and the workspace that speaks of the taken actions
-pub record Stated (i : Instance) (number letter : ℕ) (before after : List ℕ) : Type 0 where
+-- the status that a letter stands for: its number, and the letter itself
+pub record Stated (byte number letter : ℕ) : Type 0 where
   pub is-accepted : number ≡ 0
-  pub is-letter : letter ≡ letterOf i
-  pub workspace : after ≡ filled (term i) (takenOf i) before
+  pub is-letter : So (isLetter byte) → letter ≡ byte
 
 -- one more action tried, which leads to state s: the instance with it, whether the actions are possible, and the workspace that speaks of them
 pub record Trial (c : Configuration) (i : Instance) (u s : ℕ) (with-it : Instance) (isPossible : Bool) (before after : List ℕ) : Type 0 where
-  pub is-with : with-it ≡ withAction i (notedFor c i u) s
+  pub is-with : with-it ≡ taking c i u s
   pub is-possible : isPossible ≡ possible (term i) 0 (tried c i u)
   pub workspace : after ≡ filled (term i) (tried c i u) before
+
+-- what a close gives to an instance
+pub record CloseGives (i : Instance) (number : ℕ) (left : Instance) : Type 0 where
+  pub is-number : number ≡ code (closeRefusals i)
+  pub is-left : left ≡ cond (eqb (code (closeRefusals i)) 0) (asClosed i) i
 
 -- what an event gives to an instance to which none of 12, 15, 10 and 7 applies
 pub record InstanceOutcome : Type 0 where

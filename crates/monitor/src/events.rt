@@ -1,6 +1,6 @@
 // An event's word, read.
 ghost use mathlib.Core.Path.{_≡_};
-ghost use Rattle.monitor.specs.Events.{eventOf, readEvent};
+ghost use Rattle.monitor.specs.Events.{eventOf, readEvent, isShort};
 use super::Event;
 use policy::kinds;
 
@@ -37,6 +37,13 @@ fn event_of(users: u32, roles: u32, kind: u32, user: u8, low: u8) -> Event
         };
     }
     Event::Malformed
+}
+
+// Whether a workspace of this length is too short for the word; one of a close's kind asks for none.
+pub(crate) fn is_short(word: u32, length: usize) -> bool
+    ensures { λ r. ⌜ r ≡ isShort word length ⌝ }
+{
+    (word >> 24 != kinds::CLOSE) & (length < 8192)
 }
 
 // Reads an event's word.

@@ -2,6 +2,7 @@
 mod evaluation;
 mod events;
 mod monitors;
+mod statuses;
 mod steps;
 mod trials;
 

@@ -11,7 +11,7 @@ use policy::Code;
 use policy::PolicyRead;
 use policy::codes;
 
-// What every call on a monitor asks first: 12, 15 or 0 and, if it is 0, the unit terms that a user meets.
+// What a call on a monitor asks first: 12, if it needs a workspace, 15 or 0 and, if it is 0, the unit terms that a user meets.
 pub(crate) struct Admission {
     pub code: u8,
     pub met: u32,
@@ -79,11 +79,11 @@ impl Monitor {
         instance.check(configuration, user)
     }
 
-    // 12 or 15 where one applies, the workspace having so many words; else 0, and what a user meets.
-    pub(crate) fn admit(self, length: usize, user: u8) -> Admission
-        ensures { λ r. ⌜ Admits self length user r ⌝ }
+    // 12 where a workspace is asked for and too short, or 15; else 0, and what a user meets.
+    pub(crate) fn admit(self, is_short: bool, user: u8) -> Admission
+        ensures { λ r. ⌜ Admits self «is_short» user r ⌝ }
     {
-        if length < 8192 {
+        if is_short {
             return Admission {
                 code: codes::WORKSPACE,
                 met: 0,

@@ -2,17 +2,19 @@
 ghost use mathlib.Core.Path.{_≡_};
 ghost use Prim.Native.Nat.{_<_};
 ghost use Rattle.policy.specs.Refusals.{code};
-ghost use Rattle.monitor.specs.declared.Event.the-variants.{Acts, Closes};
+ghost use Rattle.monitor.specs.declared.Event.the-variants.{Acts};
 ghost use Rattle.monitor.specs.Events.{entry, outcome};
-ghost use Rattle.monitor.specs.Private.{Admitted, Trial, stepNumber, Entered, actor, Meets, Noting, ownOutcome, monitorOutcome};
+ghost use Rattle.monitor.specs.Private.{Admitted, Sound, LongEnough, Trial, stepNumber, Entered, actor, Meets, Noting, CloseGives, ownOutcome, monitorOutcome};
 use super::Answer;
 use super::Event;
 use super::Monitor;
 use super::evaluation::evaluate;
+use super::events::is_short;
 use super::events::read_event;
 use configuration::Configuration;
 use instance::Instance;
 use instance::Step;
+use instance::letters;
 use policy::codes;
 use soda::Action;
 
@@ -45,7 +47,7 @@ fn actor_of(event: Event) -> u8
     }
 }
 
-// An instance with one more action, and whether its actions are possible.
+// An instance with one more action and its status anew, and whether its actions are possible.
 struct Tried {
     instance: Instance,
     possible: bool,
@@ -66,7 +68,7 @@ fn try_action(
     let tried = instance.with_action(Action::new(user, met), state);
     let evaluation = evaluate(tried, workspace);
     Tried {
-        instance: tried,
+        instance: tried.with_status(evaluation.satisfied),
         possible: evaluation.possible,
     }
 }
@@ -126,13 +128,11 @@ fn act(
     }
 }
 
-// A close.
-fn close(configuration: Configuration, instance: Instance, workspace: &mut [u32]) -> Moved
-    requires { ⌜ Admitted configuration instance (now workspace) ⌝ }
-    ensures { λ r. ⌜ record { code = r .code; instance = r .instance; workspace = now (workspace .exit) } ≡ ownOutcome configuration instance Closes (now (workspace .entry)) ⌝ }
+// A close: the letter and the workflow's state decide.
+fn close(instance: Instance) -> Moved
+    ensures { λ r. ⌜ CloseGives instance (r .code) (r .instance) ⌝ }
 {
-    let evaluation = evaluate(instance, workspace);
-    if !evaluation.satisfied {
+    if instance.status != letters::COMPLETE {
         return Moved {
             code: codes::NOT_SATISFIED,
             instance,
@@ -163,9 +163,9 @@ fn answer(code: u8, configuration: Configuration, instance: Instance) -> Answer
     }
 }
 
-// An event to which none of 12, 15, 10 and 7 applies; its user, if it is an action, meets these unit terms.
+// An event to which none of 12, 15, 10 and 7 applies; its user, if it is an action, meets these unit terms, and the workspace is long enough.
 fn perform(monitor: Monitor, event: Event, met: u32, workspace: &mut [u32]) -> Answer
-    requires { ⌜ Admitted (monitor .configuration) (monitor .instance) (now workspace) × Entered (monitor .configuration) event × Noting monitor event met ⌝ }
+    requires { ⌜ Sound (monitor .configuration) (monitor .instance) × LongEnough event (now workspace) × Entered (monitor .configuration) event × Noting monitor event met ⌝ }
     ensures { λ r. ⌜ record { code = r .code; monitor = r .monitor; workspace = now (workspace .exit) } ≡ monitorOutcome monitor event (now (workspace .entry)) ⌝ }
 {
     let configuration = monitor.configuration;
@@ -187,7 +187,7 @@ fn perform(monitor: Monitor, event: Event, met: u32, workspace: &mut [u32]) -> A
             instance,
         ),
         Event::Closes => {
-            let moved = close(configuration, instance, workspace);
+            let moved = close(instance);
             let next = moved.instance;
             answer(moved.code, configuration, next)
         }
@@ -202,7 +202,7 @@ impl Monitor {
     {
         let configuration = self.configuration;
         let event = read_event(configuration.users, configuration.roles, word);
-        let admission = self.admit(workspace.len(), actor_of(event));
+        let admission = self.admit(is_short(word, workspace.len()), actor_of(event));
         let refusal = admission.code;
         if refusal != codes::ACCEPTED {
             return Answer {

@@ -36,7 +36,7 @@ impl Monitor {
     pub fn enabled(self, action: u8, workspace: &mut [u32]) -> Enabled
         ensures { λ r. ⌜ record { answer = r; workspace = now (workspace .exit) } ≡ enabledOf self action (now (workspace .entry)) ⌝ }
     {
-        let admission = self.admit(workspace.len(), 0);
+        let admission = self.admit(workspace.len() < 8192, 0);
         let refusal = admission.code;
         if refusal != codes::ACCEPTED {
             return Enabled::Refused(refusal);

@@ -1,6 +1,5 @@
--- The byte of what the status is; the workspace is as the status call leaves it.
+-- The byte of what the status is.
 use mathlib.Core.Path.{ap, _∙_}
-use Rattle.monitor.specs.Statuses.{StatusOutcome}
 use Rattle.embed.specs.Bytes.{statusByte}
 use borrow.Author.Needs.{needs}
 use Rattle.embed.proofs.status_of.Statement.{statement}
@@ -12,13 +11,8 @@ status-requires c κs = search needs
 status-byte-requires : tie.Need-status-byte-requires
 status-byte-requires c κs = search needs
 
-same-length : tie.Need-same-length
-same-length c = search needs
-
 returns : tie.Need-returns
-returns c =
-    let s = c .before .before .before in
-    (c .status-byte .ensures ∙ ap statusByte (s .status .ensures), ap (λ (o : StatusOutcome). o .workspace) (s .status .ensures))
+returns c = c .status-byte .ensures ∙ ap statusByte (c .before .status .ensures)
 
 pub status-of-spec : {M : Type 1} → statement M
-status-of-spec = tie.close (tie.spec status-requires status-byte-requires same-length returns)
+status-of-spec = tie.close (tie.spec status-requires status-byte-requires returns)

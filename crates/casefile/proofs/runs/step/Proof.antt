@@ -23,9 +23,6 @@ begun c = c .before .before
 abbrev entered : tie.After-next → tie.After-event
 entered n = n .before .before .before
 
-abbrev known : tie.After-slice-known4 → tie.After-status
-known c = c .before .before
-
 -- ── the calls ──
 event-requires : tie.Need-event-requires
 event-requires c κs = search needs
@@ -56,9 +53,6 @@ module _ (c : tie.After-event) where
   formed = subst (λ (i : Monitor). So (wellFormed i)) (sym (ap (λ (o : Outcome). o .monitor) (c .event .ensures)))
       (event-keeps-well-formed before word (start .args .workspace .now) (places start) (start .pre .isFormed))
 
-  room : length (c .event .last .1 .1 .0) ≡ 8192
-  room = c .event .kept .1 .1 .0 ∙ start .pre .size
-
 status-requires : tie.Need-status-requires
 status-requires c κs = search needs
 
@@ -68,14 +62,14 @@ letter-of-requires c κs = search needs
 -- the line
 module _ (c : tie.After-letter-of) where
   abbrev asked : tie.After-status
-  asked = known (c .before .before)
+  asked = c .before .before
 
   abbrev called : tie.After-event
-  called = entered (asked .before .before)
+  called = entered (asked .before)
 
-  status : c .letter-of .result ≡ statusLetter (eventMonitor (before called) (word called) 8192) 8192
+  status : c .letter-of .result ≡ statusLetter (eventMonitor (before called) (word called) 8192)
   unfolding statusOf
-  status = c .letter-of .ensures ∙ ap (λ (o : StatusOutcome). o .letter) (asked .status .ensures) ∙ ap₂ (λ (j : Monitor) (n : ℕ). statusLetter j n) (left called) (room called)
+  status = c .letter-of .ensures ∙ ap (λ (o : StatusOutcome). o .letter) (asked .status .ensures) ∙ ap (λ (j : Monitor). statusLetter j) (left called)
 
   line : lineText (start called .args .place) (called .event .result .code) (c .letter-of .result) ≡ lineOf (before called) (start called .args .place) (word called)
   line = ap₂ (λ (k l : ℕ). lineText (start called .args .place) k l) (number called) status

@@ -15,7 +15,7 @@ use Rattle.units.specs.Units.{metOf}
 use Rattle.configuration.specs.declared.Configuration.{Configuration}
 use Rattle.instance.specs.declared.Instance.{Instance}
 use Rattle.configuration.specs.Configurations.{held}
-use Rattle.instance.specs.Instances.{policyOf, isTakenOk, isTidy, instanceOk}
+use Rattle.instance.specs.Instances.{policyOf, isTakenOk, isTidy, isPlaced, instanceOk}
 use Rattle.soda.proofs.Results.{failed, passed}
 use Rattle.instance.proofs.Checks.{survey-accepted, survey-units, survey-met}
 use Rattle.instance.proofs.Instance.check.Statement.{statement}
@@ -110,7 +110,7 @@ returns-4 c =
     let e = read-at t in
     rw (few (few-at (read e)), accepted e, passed (told t) (c .before .before .if3 .left), failed (c .before .is-tidy .ensures) (c .if4 .taken))
 
--- all tests before the last
+-- all tests before that of the state
 module _ (c : tie.After-is-placed) where
   abbrev tidy-at : tie.After-is-tidy
   tidy-at = c .before .before
@@ -128,12 +128,32 @@ returns-5 c =
     let e = read-at (taken-at (tidy-at p)) in
     rw (few (few-at (read e)), accepted e, is-taken p, is-unused p, failed (p .is-placed .ensures) (c .if5 .taken))
 
+-- all tests before the last
+module _ (c : tie.After-is-lettered) where
+  abbrev placed-at : tie.After-is-placed
+  placed-at = c .before .before
+
+  abbrev reading-at : tie.Else2
+  reading-at = read-at (taken-at (tidy-at placed-at))
+
+  is-state : isPlaced (over (read reading-at)) (here (read reading-at)) ≡ true
+  is-state = passed (placed-at .is-placed .ensures) (c .before .if5 .left)
+
 returns-6 : tie.Need-returns-6
 unfolding instanceOk
 returns-6 c =
-    let p = c .before in
-    let e = read-at (taken-at (tidy-at p)) in
-    rw (few (few-at (read e)), accepted e, is-taken p, is-unused p, passed (p .is-placed .ensures) (c .if5 .left), meets e)
+    let l = c .before in
+    let p = placed-at l in
+    let e = reading-at l in
+    rw (few (few-at (read e)), accepted e, is-taken p, is-unused p, is-state l, failed (l .is-lettered .ensures) (c .if6 .taken))
+
+returns-7 : tie.Need-returns-7
+unfolding instanceOk
+returns-7 c =
+    let l = c .before in
+    let p = placed-at l in
+    let e = reading-at l in
+    rw (few (few-at (read e)), accepted e, is-taken p, is-unused p, is-state l, passed (l .is-lettered .ensures) (c .if6 .left), meets e)
 
 pub check-spec : {M : Type 1} → statement M
 check-spec =
@@ -151,4 +171,6 @@ check-spec =
     returns-4
     (λ c κs. search needs)
     returns-5
-    returns-6)
+    (λ c κs. search needs)
+    returns-6
+    returns-7)

@@ -2,6 +2,8 @@
 use mathlib.Core.Path.{_≡_, sym, _∙_}
 use Prim.Native.Nat.{_<_}
 use borrow.Author.Needs.{needs}
+use borrow.Author.Tests.{ltb-false}
+use lib.Dec.{ltb}
 use lib.ListN.{length}
 use Rattle.soda.proofs.Bools.{and-split}
 use Rattle.policy.specs.Refusals.{code}
@@ -35,7 +37,7 @@ returns c =
     let a = start k .args in
     rw (k .admit .ensures .number) (enabled-refused (a .self) (a .workspace .now) (λ z. c .if1 .taken (k .admit .ensures .number ∙ z)) (a .action))
 
-accepted : (e : tie.Else1) → code (admission (start (e .before) .args .self) (length (start (e .before) .args .workspace .now))) ≡ 0
+accepted : (e : tie.Else1) → code (admission (start (e .before) .args .self) (ltb (length (start (e .before) .args .workspace .now)) 8192)) ≡ 0
 accepted e = sym (e .before .admit .ensures .number) ∙ e .if1 .left
 
 returns-2 : tie.Need-returns-2
@@ -47,9 +49,9 @@ try-all-requires : tie.Need-try-all-requires
 try-all-requires c κs =
     let e = admitted (looked c .before) in
     let a = start (e .before) .args in
-    let k = admits (a .self) (length (a .workspace .now)) (accepted e) in
+    let k = admits (a .self) (ltb (length (a .workspace .now)) 8192) (accepted e) in
     let (p, q) = and-split (configurationOk (a .self .configuration)) (instanceOk (a .self .configuration) (a .self .instance)) (k .1) in
-    record { long = k .0; configuration-ok = p; instance-ok = q }
+    record { long = ltb-false (length (a .workspace .now)) 8192 (k .0); configuration-ok = p; instance-ok = q }
 
 returns-3 : tie.Need-returns-3
 returns-3 c =

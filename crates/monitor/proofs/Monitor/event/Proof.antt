@@ -1,18 +1,19 @@
 -- The checks in order: each return is a refusal's, or what performing the event gave.
 use mathlib.Core.Path.{_≡_, sym, subst, ap, _∙_}
+use mathlib.Core.Bool.{Bool}
 use Prim.Native.Nat.{ℕ}
 use borrow.Author.Needs.{needs}
 use lib.ListN.{length}
 use Rattle.policy.specs.Refusals.{code}
 use Rattle.monitor.specs.declared.Event.{Event}
 use Rattle.monitor.specs.Monitors.{admission}
-use Rattle.monitor.specs.Events.{eventIn, entry}
+use Rattle.monitor.specs.Events.{isShort, eventIn, entry}
 use Rattle.monitor.specs.Private.{Meets, Noting, monitorOutcome}
 use Rattle.configuration.proofs.Formed.{is-configuration-formed}
 use Rattle.instance.proofs.Formed.{is-instance-formed}
 use Rattle.monitor.proofs.Formed.{formed}
 use Rattle.monitor.proofs.Checks.{noting}
-use Rattle.monitor.proofs.Reading.{declared, entered}
+use Rattle.monitor.proofs.Reading.{declared, entered, asks, long-enough}
 use Rattle.monitor.proofs.Order.{admits, enters, not-admitted, not-entered, performed}
 use Rattle.monitor.proofs.Monitor.event.Statement.{statement}
 use Rattle.monitor.proofs.Monitor.event.Tie as tie
@@ -20,15 +21,23 @@ use Rattle.monitor.proofs.Monitor.event.Tie as tie
 abbrev begin : tie.After-read-event → tie.Start
 begin c = c .before .before .before
 
+abbrev asked : tie.After-admit → tie.After-is-short
+asked c = c .before .before
+
 abbrev read : tie.After-admit → tie.After-read-event
-read c = c .before .before
+read c = asked c .before
+
+-- the admission's number, of the word and of this workspace
+number-is : (c : tie.After-admit) → c .admit .result .code
+    ≡ code (admission (begin (read c) .args .self) (isShort (begin (read c) .args .word) (length (begin (read c) .args .workspace .now))))
+number-is c = c .admit .ensures .number ∙ ap (λ (b : Bool). code (admission (begin (read c) .args .self) b)) (asked c .is-short .ensures)
 
 -- a refusal by 12 or 15
 returns : tie.Need-returns
 returns c =
     let k = c .before in
     let a = begin (read k) .args in
-    rw (k .admit .ensures .number) (not-admitted (a .self) (a .word) (a .workspace .now) (λ z. c .if1 .taken (k .admit .ensures .number ∙ z)))
+    rw (number-is k) (not-admitted (a .self) (a .word) (a .workspace .now) (λ z. c .if1 .taken (number-is k ∙ z)))
 
 -- nothing is refused so far, and the event's own checks
 module _ (c : tie.After-enter) where
@@ -41,8 +50,11 @@ module _ (c : tie.After-enter) where
   abbrev begun : tie.Start
   begun = begin (read admitted)
 
-  accepted : code (admission (begun .args .self) (length (begun .args .workspace .now))) ≡ 0
-  accepted = sym (admitted .admit .ensures .number) ∙ clear .if1 .left
+  abbrev short : Bool
+  short = isShort (begun .args .word) (length (begun .args .workspace .now))
+
+  accepted : code (admission (begun .args .self) short) ≡ 0
+  accepted = sym (number-is admitted) ∙ clear .if1 .left
 
   is-read : read admitted .read-event .result ≡ eventIn (begun .args .self) (begun .args .word)
   is-read = read admitted .read-event .ensures
@@ -70,14 +82,14 @@ perform-requires c κs =
     let k = e .before in
     let a = begun k .args in
     let d = a .self .configuration in
-    let h = admits (a .self) (length (a .workspace .now)) (accepted k) in
+    let h = admits (a .self) (short k) (accepted k) in
     let f = formed (a .self) (h .1) in
     let v = eventIn (a .self) (a .word) in (
       record {
-        long = h .0;
         configuration-ok = is-configuration-formed d (f .in-configuration);
         instance-ok = is-instance-formed d (a .self .instance) (f .in-instance);
       },
+      rw (is-read k) (long-enough v (a .word) (a .workspace .now) (asks (d .users) (d .roles) (a .word) (length (a .workspace .now))) (h .0)),
       rw (is-read k) (entered d v (declared (d .users) (d .roles) (a .word)) (enters (a .self .instance) v (sym (number k) ∙ e .if2 .left) .1)),
       meets k,
     )
@@ -95,6 +107,7 @@ pub event-spec : {M : Type 1} → statement M
 event-spec =
     tie.close
     (tie.spec
+    (λ c κs. search needs)
     (λ c κs. search needs)
     (λ c κs. search needs)
     (λ c κs. search needs)

@@ -1,14 +1,16 @@
 -- By the event: an action or a close moves the instance, a grant or revocation the configuration.
-use mathlib.Core.Path.{_≡_, refl, sym, subst, ap, _∙_}
+use mathlib.Core.Path.{_≡_, refl, sym, subst, ap, ap₂, _∙_}
 use mathlib.Core.Bool.{true}
-use Prim.Native.Nat.{ℕ, _<_}
+use Prim.Native.Nat.{ℕ, _≤_, _<_}
 use native.Mathlib.Omega.{arith}
 use borrow.Author.Needs.{needs}
 use borrow.Author.Tests.{lt-ltb}
 use lib.Dec.{ltb}
+use lib.ListN.{length}
+use Rattle.instance.specs.declared.Instance.{Instance}
 use Rattle.monitor.specs.declared.Event.{Event}
 use Rattle.monitor.specs.declared.Event.the-variants.{Acts, Grants, Revokes, Closes, Malformed}
-use Rattle.monitor.specs.Private.{Entered, Noting, monitorOutcome}
+use Rattle.monitor.specs.Private.{LongEnough, Entered, Noting, monitorOutcome}
 use Rattle.configuration.proofs.Formed.{configuration-formed, roles-most}
 use Rattle.monitor.proofs.Order.{lifted}
 use Rattle.monitor.proofs.steps.perform.Statement.{statement}
@@ -20,10 +22,13 @@ module _ (i : tie.After-instance) where
   start = i .before .before .before
 
   names : (e : Event) → start .args .event ≡ e → Entered (start .args .monitor .configuration) e
-  names e is = subst (Entered (start .args .monitor .configuration)) is (start .pre .1)
+  names e is = subst (Entered (start .args .monitor .configuration)) is (start .pre .2)
+
+  long : (e : Event) → start .args .event ≡ e → LongEnough e (start .args .workspace .now)
+  long e is = subst (λ (x : Event). LongEnough x (start .args .workspace .now)) is (start .pre .1)
 
   noting : (e : Event) → start .args .event ≡ e → Noting (start .args .monitor) e (start .args .met)
-  noting e is = subst (λ (x : Event). Noting (start .args .monitor) x (start .args .met)) is (start .pre .2)
+  noting e is = subst (λ (x : Event). Noting (start .args .monitor) x (start .args .met)) is (start .pre .3)
 
   -- a declared role has a bit in the rows
   in-rows : (r : ℕ) → r < start .args .monitor .configuration .roles → ltb r 16 ≡ true
@@ -39,7 +44,9 @@ act-requires c κs =
     let v = c .before .before in
     let i = v .before .before in
     let e = Acts (v .event .given .0 .0) (v .event .given .0 .1 .0) in
-    (start i .pre .0, names i e (v .event .given .1), noting i e (v .event .given .1))
+    let p = start i .pre .0 in
+    let n : 8192 ≤ length (start i .args .workspace .now) = long i e (v .event .given .1) in
+    (record { long = n; configuration-ok = p .configuration-ok; instance-ok = p .instance-ok }, names i e (v .event .given .1), noting i e (v .event .given .1))
 
 answer-requires : tie.Need-answer-requires
 answer-requires c κs = search needs
@@ -60,7 +67,7 @@ enum-told : tie.Need-enum-told
 enum-told c = search needs
 
 close-requires : tie.Need-close-requires
-close-requires c κs = start (c .before .before .before) .pre .0
+close-requires c κs = search needs
 
 answer-requires-4 : tie.Need-answer-requires-4
 answer-requires-4 c κs = search needs
@@ -79,7 +86,7 @@ abbrev acted : tie.After-next → tie.After-act
 acted c = c .before .before .before
 
 abbrev closed : tie.After-next2 → tie.After-close
-closed c = c .before .before .before
+closed c = c .before
 
 returns : tie.Need-returns
 returns c =
@@ -109,16 +116,14 @@ returns-3 c =
     let few = in-rows (v .before .before) r (names (v .before .before) (Revokes u r) (v .event3 .given .1) .1) in
     rw (c .answer3 .ensures, g .without-grant .ensures, v .event3 .given .1, few)
 
-same-length-2 : tie.Need-same-length-2
-same-length-2 c = search needs
-
 returns-4 : tie.Need-returns-4
 returns-4 c =
     let t = closed (c .before) in
-    let v = t .before .before in
+    let v = t .before in
     let a = start (v .before .before) .args in
     rw (c .answer4 .ensures)
-    (lifted (a .monitor) Closes (a .workspace .now) refl _ (t .close .ensures)
+    (lifted (a .monitor) Closes (a .workspace .now) refl (record { code = _; instance = _; workspace = a .workspace .now })
+    (ap₂ (λ (k : ℕ) (i : Instance). record { code = k; instance = i; workspace = a .workspace .now }) (t .close .ensures .is-number) (t .close .ensures .is-left))
     ∙ sym (ap (λ (e : Event). monitorOutcome (a .monitor) e (a .workspace .now)) (v .enum-told .given .1)))
 
 returns-5 : tie.Need-returns-5
@@ -148,6 +153,5 @@ perform-spec =
     returns
     returns-2
     returns-3
-    same-length-2
     returns-4
     returns-5)

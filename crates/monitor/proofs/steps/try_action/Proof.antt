@@ -1,16 +1,18 @@
 -- The tried instance has the noted action behind the taken ones, and the workspace can be filled for it.
-use mathlib.Core.Path.{_≡_, ap, _∙_}
+use mathlib.Core.Path.{_≡_, ap, ap₂, _∙_}
+use mathlib.Core.Bool.{Bool}
 use mathlib.Core.List.{List}
 use Prim.Native.Nat.{ℕ, _<_}
 use native.Mathlib.Omega.{arith}
 use borrow.Author.Needs.{needs}
 use borrow.Author.Tests.{lt-ltb}
 use lib.ListN.{length}
-use Rattle.soda.specs.Tables.{possible}
+use Rattle.soda.specs.Tables.{satisfied, possible}
 use Rattle.soda.specs.declared.Action.{Action}
 use Rattle.workspace.specs.Workspace.{filled}
 use Rattle.instance.specs.declared.Instance.{Instance}
-use Rattle.instance.specs.Instances.{term, takenOf, notedFor, withAction}
+use Rattle.instance.specs.Letters.{openLetter}
+use Rattle.instance.specs.Instances.{term, takenOf, notedFor, withAction, withStatus}
 use Rattle.soda.proofs.Lists.{length-mapped}
 use Rattle.configuration.proofs.Formed.{ConfigurationFormed, configuration-formed}
 use Rattle.instance.proofs.Formed.{InstanceFormed, instance-formed}
@@ -59,14 +61,15 @@ same-length c = search needs
 
 returns : tie.Need-returns
 returns c =
-    let j = c .before .before in
+    let j = c .before .before .before in
     let t = j .before .before in
     let s = start t in
     let i = s .args .instance in
     let e = tried-is t in
     let more = taken-more i (own s) (s .args .state) (within s) in
+    let own-satisfied = j .evaluate .ensures .is-satisfied ∙ ap (λ (x : Instance). satisfied (term x) 0 (takenOf x)) e ∙ ap (satisfied (term i) 0) more in
     record {
-      is-with = e;
+      is-with = c .with-status .ensures ∙ ap₂ (λ (x : Instance) (b : Bool). withStatus x (openLetter b)) e own-satisfied;
       is-possible = j .evaluate .ensures .is-possible ∙ ap (λ (x : Instance). possible (term x) 0 (takenOf x)) e ∙ ap (possible (term i) 0) more;
       workspace =
           j .evaluate .ensures .workspace ∙ ap (λ (x : Instance). filled (term x) (takenOf x) (s .args .workspace .now)) e
@@ -75,4 +78,4 @@ returns c =
 
 pub try-action-spec : {M : Type 1} → statement M
 try-action-spec =
-    tie.close (tie.spec (λ c κs. search needs) with-action-requires evaluate-requires same-length returns)
+    tie.close (tie.spec (λ c κs. search needs) with-action-requires evaluate-requires (λ c κs. search needs) same-length returns)
