@@ -21,13 +21,14 @@
 
 /* The version of this header. oskhrein_version gives that of the library: it is to be OSKHREIN_VERSION. */
 #define OSKHREIN_VERSION_MAJOR 0
-#define OSKHREIN_VERSION_MINOR 5
+#define OSKHREIN_VERSION_MINOR 6
 #define OSKHREIN_VERSION_PATCH 0
 #define OSKHREIN_VERSION (OSKHREIN_VERSION_MAJOR * 65536u + OSKHREIN_VERSION_MINOR * 256u + OSKHREIN_VERSION_PATCH)
 
 /* The number of the layout of struct oskhrein_monitor, another one whenever the struct is another. Keep it beside a stored monitor, and
- * reload only what was stored under the same number. oskhrein_layout gives that of the library. */
-#define OSKHREIN_LAYOUT 3
+ * reload only what was stored under the same number: a monitor of an earlier one has no status, so open it anew and send its events
+ * again. oskhrein_layout gives that of the library. */
+#define OSKHREIN_LAYOUT 4
 
 #ifdef __cplusplus
 extern "C" {
@@ -55,12 +56,12 @@ enum {
     OSKHREIN_FULL = 8,            /* twelve actions taken already; a multiset of more than twelve */
     OSKHREIN_NOT_POSSIBLE = 9,    /* the actions with this one are not possible */
     OSKHREIN_CLOSED = 10,         /* the monitor is closed */
-    OSKHREIN_NOT_SATISFIED = 11,  /* close, but the taken actions do not satisfy, or the workflow is in no final state */
+    OSKHREIN_NOT_SATISFIED = 11,  /* close, but the status is not 'c', or the workflow is in no final state */
     OSKHREIN_NOT_AUTHORIZED = 16, /* no role that the user holds gives the action */
     OSKHREIN_NO_TRANSITION = 17,  /* the workflow has no transition for the action in its present state */
 
     /* Program that calls. */
-    OSKHREIN_WORKSPACE = 12, /* workspace below 8,192 words */
+    OSKHREIN_WORKSPACE = 12, /* workspace below 8,192 words; never for a close */
     OSKHREIN_OUTPUT = 13,    /* output shorter than the policy */
     OSKHREIN_CASE = 14,      /* case file malformed; no call of this header reads one */
     OSKHREIN_MONITOR = 15    /* monitor malformed: see oskhrein_event */
@@ -70,7 +71,7 @@ enum {
 enum {
     OSKHREIN_STATUS_CLOSED = 'd',
     OSKHREIN_STATUS_COMPLETE = 'c', /* not closed, and the taken actions satisfy the policy */
-    OSKHREIN_STATUS_OPEN = 'o',
+    OSKHREIN_STATUS_OPEN = 'o',     /* not closed, and they do not */
     OSKHREIN_YES = 'y',
     OSKHREIN_NO = 'n'
 };
@@ -154,15 +155,16 @@ struct oskhrein_workflow {
 };
 
 /* An instance: the policy, the taken actions in order of arrival, the workflow, the policy's word count, the number of the actions, the
- * closed mark: 0 is open, every other value closed, and the workflow's present state. Words and places past their numbers are zero.
- * Without a workflow its state and the configuration's permissions are zero too. */
+ * closed mark: 0 is not closed, every other value closed, the letter of the status, and the workflow's present state. Words and places
+ * past their numbers are zero. Without a workflow its state and the configuration's permissions are zero too. */
 struct oskhrein_instance {
     uint32_t policy[OSKHREIN_MAX_WORDS];
     struct oskhrein_action actions[OSKHREIN_MAX_ACTIONS];
     struct oskhrein_workflow workflow;
-    uint16_t words;
+    uint8_t words;
     uint8_t taken;
     uint8_t closed;
+    uint8_t status;
     uint32_t state;
 };
 
@@ -183,8 +185,8 @@ struct oskhrein_monitor {
 #define OSKHREIN_FIELDS \
     (OSKHREIN_MAX_ROLES * sizeof(uint64_t) + OSKHREIN_MAX_USERS * sizeof(uint16_t) + 2 * sizeof(uint32_t) + \
      OSKHREIN_MAX_WORDS * sizeof(uint32_t) + OSKHREIN_MAX_ACTIONS * 2 * sizeof(uint32_t) + \
-     OSKHREIN_MAX_TRANSITIONS * 3 * sizeof(uint8_t) + sizeof(uint16_t) + 2 * sizeof(uint8_t) + sizeof(uint16_t) + \
-     2 * sizeof(uint8_t) + sizeof(uint32_t))
+     OSKHREIN_MAX_TRANSITIONS * 3 * sizeof(uint8_t) + sizeof(uint16_t) + 2 * sizeof(uint8_t) + 4 * sizeof(uint8_t) + \
+     sizeof(uint32_t))
 #if defined __cplusplus && __cplusplus >= 201103L
 static_assert(sizeof(struct oskhrein_monitor) == 592, "a monitor has 592 bytes");
 static_assert(sizeof(struct oskhrein_monitor) == OSKHREIN_FIELDS, "a monitor has no padding");
@@ -197,10 +199,10 @@ _Static_assert(_Alignof(struct oskhrein_monitor) == 8, "a monitor stands at a mu
 #undef OSKHREIN_FIELDS
 
 /*
- * The workspace: at least OSKHREIN_WORKSPACE_WORDS words. Where a call fills it, it speaks of n actions, bit j of a mask standing for
- * the one at place j, from 0. Word s, for each s below 2^n, holds in bit i whether the set with mask s satisfies the term at policy
- * word i; word 4096 + s holds the same for possible. Bits past the policy and the other words below 8,192 are zero. Words from 8,192
- * on keep what they had.
+ * The workspace: at least OSKHREIN_WORKSPACE_WORDS words; a close takes any number, even none. Where a call fills it, it speaks of n
+ * actions, bit j of a mask standing for the one at place j, from 0. Word s, for each s below 2^n, holds in bit i whether the set with
+ * mask s satisfies the term at policy word i; word 4096 + s holds the same for possible. Bits past the policy and the other words below
+ * 8,192 are zero. Words from 8,192 on keep what they had.
  */
 
 /*
@@ -231,7 +233,8 @@ _Static_assert(_Alignof(struct oskhrein_monitor) == 8, "a monitor stands at a mu
  * Any other answer leaves *place as it was.
  *
  * Leaves in *monitor what was opened: the policy, the counts, the rows, permissions and workflow, zeros behind them, no action, in
- * state 0, and not closed. A refusal leaves the blank monitor there, all zero. words, rows, permissions and workflow are only read.
+ * state 0, not closed, status 'o'. A refusal leaves the blank monitor there, all zero, the status too. words, rows, permissions and
+ * workflow are only read.
  */
 uint8_t oskhrein_open(struct oskhrein_monitor *monitor, uint8_t users, uint8_t roles, const uint32_t *words, size_t n_words,
                       const uint16_t *rows, size_t n_rows, const uint8_t *permissions, size_t n_permissions, const uint8_t *workflow,
@@ -245,43 +248,48 @@ uint8_t oskhrein_open(struct oskhrein_monitor *monitor, uint8_t users, uint8_t r
  *   4 close     all other bits are zero
  *
  * Answers OSKHREIN_ACCEPTED, or the first that applies of
- *   OSKHREIN_WORKSPACE      n_workspace below 8,192
+ *   OSKHREIN_WORKSPACE      n_workspace below 8,192; never for a word of kind 4, whatever its other bits
  *   OSKHREIN_MONITOR        the monitor's policy, counts or rows would be refused; above twelve actions; an action by a user not
  *                           declared, or with a bit at a word that begins no unit term; permissions or workflow would be refused, or
  *                           the workflow has no such state as the present one; an unused place, policy word, row or transition not
- *                           zero, and without a workflow anything of it, its state or the permissions
+ *                           zero, and without a workflow anything of it, its state or the permissions; a status other than 'o', 'c'
+ *                           and 'd', one that is 'd' without the closed mark or not 'd' with it, or one that is not 'o' without the
+ *                           mark and without an action
  *   OSKHREIN_CLOSED         whatever the word is
  *   OSKHREIN_MALFORMED
  *   OSKHREIN_NOT_AUTHORIZED an action only: permissions are given, and no role that the user holds now gives it; none gives one above 63
  *   OSKHREIN_NO_TRANSITION  an action only: a workflow is given, and has no transition for it in the present state
  *   OSKHREIN_FULL           an action only
  *   OSKHREIN_NOT_POSSIBLE   an action only
- *   OSKHREIN_NOT_SATISFIED  a close only: the taken actions do not satisfy, or a workflow is given and its present state is not final
+ *   OSKHREIN_NOT_SATISFIED  a close only: the status is not 'c', or a workflow is given and its present state is not final
  *
- * Leaves in *monitor, where it answers 0, what the event alters: an action the next place, their number and the workflow's state, a
- * grant or revocation one bit, a close the mark. Any other answer leaves *monitor as it was.
+ * Leaves in *monitor, where it answers 0, what the event alters: an action the next place, their number, the workflow's state and the
+ * status, 'c' if the taken actions with this one satisfy the policy, else 'o'; a grant or revocation one bit; a close the mark, which
+ * is then 1, and the status, then 'd'. Any other answer leaves *monitor as it was.
  *
- * Leaves the workspace filled for the taken actions with the tried one after an action answered 0 or 9, and for the taken actions
- * after a close answered 0 or 11. After any other event or answer it is as it was.
+ * Leaves the workspace filled for the taken actions with the tried one after an action answered 0 or 9. After any other event or answer
+ * it is as it was: a close never touches it.
  */
 uint8_t oskhrein_event(struct oskhrein_monitor *monitor, uint32_t word, uint32_t *workspace, size_t n_workspace);
 
 /*
- * The status of a monitor.
+ * The status of a monitor: the letter that it keeps. No action is judged and no workspace asked for, so that it may be asked for at each
+ * keystroke.
  *
- * Answers OSKHREIN_WORKSPACE or OSKHREIN_MONITOR, the first that applies, as oskhrein_event does; else OSKHREIN_STATUS_CLOSED if it
- * is closed, else OSKHREIN_STATUS_COMPLETE if the taken actions satisfy the policy, else OSKHREIN_STATUS_OPEN. The workflow's state plays
- * no part.
+ * Answers OSKHREIN_MONITOR, as oskhrein_event does, else the monitor's letter. On a monitor that was opened, and altered by events alone,
+ * that is OSKHREIN_STATUS_CLOSED if it is closed, else OSKHREIN_STATUS_COMPLETE if the taken actions satisfy the policy, else
+ * OSKHREIN_STATUS_OPEN. On one that somebody wrote otherwise it is what was written, and a close goes by it too. The workflow's state
+ * plays no part.
  *
- * Leaves the workspace filled for the taken actions; a refusal leaves it as it was. *monitor is only read.
+ * *monitor is only read.
  */
-uint8_t oskhrein_status(const struct oskhrein_monitor *monitor, uint32_t *workspace, size_t n_workspace);
+uint8_t oskhrein_status(const struct oskhrein_monitor *monitor);
 
 /*
  * Who may act on a monitor: the users whose action with this number oskhrein_event would answer with OSKHREIN_ACCEPTED now. Without
  * permissions and workflow it is the same for every number.
  *
- * Answers OSKHREIN_ACCEPTED, or the first that applies of OSKHREIN_WORKSPACE and OSKHREIN_MONITOR, as oskhrein_event does.
+ * Answers OSKHREIN_ACCEPTED, or the first that applies of OSKHREIN_WORKSPACE and OSKHREIN_MONITOR, as oskhrein_event does for an action.
  *
  * Leaves a mask of users in *users, bit u for user u; bits from the number of users on are zero. It is 0 for a closed monitor and
  * for one with twelve actions. A refusal leaves *users as it was. *monitor is only read.

@@ -20,9 +20,11 @@ impl Quote {
         Ok(0)
     }
 
-    fn show(&self) {
+    /// The monitor keeps its status, which may be asked for whenever the screen is drawn.
+    fn show(&self) -> Result<(), Refusal> {
         let users: String = self.enabled.iter().map(|user| format!(" {user}")).collect();
-        println!("may act:{users}");
+        println!("status {}, may act:{users}", self.monitor.status()?);
+        Ok(())
     }
 }
 
@@ -33,13 +35,11 @@ fn main() -> Result<(), Refusal> {
     let monitor = Monitor::open(2, 2, policy.words(), &roles)?;
     let enabled = monitor.enabled(0, &mut workspace)?;
     let mut quote = Quote { monitor, enabled };
-    quote.show();
+    quote.show()?;
     println!("user 1 acts: {}", quote.act(1, &mut workspace)?);
-    quote.show();
+    quote.show()?;
     println!("user 1 acts again: {}", quote.act(1, &mut workspace)?);
-    quote.show();
+    quote.show()?;
     println!("user 0 acts: {}", quote.act(0, &mut workspace)?);
-    quote.show();
-    println!("status: {}", quote.monitor.status(&mut workspace)?);
-    Ok(())
+    quote.show()
 }

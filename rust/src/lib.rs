@@ -5,8 +5,8 @@
 //! the policy; [`satisfies`] asks about a multiset of users instead, and [`normal_form`] writes a
 //! policy in its normal form. A [`SecureWorkflow`] may say besides which role gives which action, and
 //! in which order actions come.
-//! Calls that judge actions are lent a [`Workspace`], and take up to 128 KiB of stack. Nothing is
-//! kept between calls but what the caller holds.
+//! Calls that judge actions are lent a [`Workspace`], and take up to 128 KiB of stack; the status and a
+//! close judge none. Nothing is kept between calls but what the caller holds.
 //!
 //! Document 01 has words of its own for some of these: a monitor is its sheet, a workspace its
 //! work room, a status its standing, a multiset its bag, and users are people. Permissions and
@@ -54,15 +54,14 @@
 //! quote.event(Event::Action { user: 1, number: 2 }, &mut workspace)?;
 //! quote.event(Event::Grant { user: 1, role: 2 }, &mut workspace)?;
 //! quote.event(Event::Grant { user: 2, role: 2 }, &mut workspace)?;
-//! let early = quote.event(Event::Close, &mut workspace);
-//! assert_eq!(early, Err(Refusal::NotSatisfied));
-//! assert_eq!(quote.status(&mut workspace)?, Status::Open);
+//! assert_eq!(quote.close(), Err(Refusal::NotSatisfied));
+//! assert_eq!(quote.status()?, Status::Open);
 //!
 //! quote.event(Event::Action { user: 2, number: 3 }, &mut workspace)?;
-//! assert_eq!(quote.status(&mut workspace)?.letter(), 'c');
+//! assert_eq!(quote.status()?.letter(), 'c');
 //! quote.event(Event::Action { user: 0, number: 4 }, &mut workspace)?;
-//! quote.event(Event::Close, &mut workspace)?;
-//! assert_eq!(quote.status(&mut workspace)?.letter(), 'd');
+//! quote.close()?;
+//! assert_eq!(quote.status()?.letter(), 'd');
 //!
 //! let late = quote.event(Event::Action { user: 0, number: 4 }, &mut workspace);
 //! assert_eq!(late.map_err(Refusal::number), Err(10));
@@ -80,6 +79,7 @@ mod permissions;
 #[allow(unsafe_code)]
 pub mod raw;
 mod refusal;
+mod reload;
 mod secure;
 mod status;
 mod term;
@@ -93,6 +93,7 @@ pub use permissions::Permissions;
 pub use raw::{Action, Transition, ACTION_NUMBERS, LAYOUT, MAX_ACTIONS, MAX_ROLES, MAX_STATES};
 pub use raw::{MAX_TRANSITIONS, MAX_USERS, MAX_WORDS};
 pub use refusal::Refusal;
+pub use reload::ReloadFault;
 pub use secure::{SecureWorkflow, WorkflowFault};
 pub use status::Status;
 pub use term::Term;

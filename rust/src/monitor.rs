@@ -3,16 +3,18 @@
 use crate::event::Event;
 use crate::raw::{self, Action, Calls, Transition, LAYOUT};
 use crate::refusal::{self, Refusal};
+use crate::reload::ReloadFault;
 use crate::secure::SecureWorkflow;
 use crate::status::Status;
 use crate::users::Users;
 use crate::workspace::Workspace;
 
 /// The monitor of one run under a policy: the policy, who holds which roles, the actions taken so
-/// far, and whether it is closed; permissions and a workflow with its present state, if they are given.
+/// far, whether it is closed, and its status; permissions and a workflow with its present state, if they
+/// are given.
 ///
-/// It is plain data without pointers. [`to_bytes`](Self::to_bytes) and
-/// [`from_bytes`](Self::from_bytes) store and reload it.
+/// It is plain data without pointers. [`to_bytes`](Self::to_bytes) and [`reload`](Self::reload) store
+/// and reload it.
 #[derive(Clone, Debug, PartialEq, Eq, Hash)]
 pub struct Monitor {
     raw: raw::Monitor,
@@ -23,7 +25,8 @@ impl Monitor {
     pub const BYTES: usize = raw::Monitor::BYTES;
 
     /// Opens a monitor under a policy, with one row of roles for each user, bit r for role r. No
-    /// action is taken, and it is not closed. Every action is permitted, in any order.
+    /// action is taken, it is not closed, and its status is open. Every action is permitted, in any
+    /// order.
     ///
     /// # Errors
     /// The first that applies of [`Counts`](Refusal::Counts), [`WordCount`](Refusal::WordCount),
@@ -89,11 +92,12 @@ impl Monitor {
         refusal::policy_accepted(answer, place).map(|()| Monitor { raw })
     }
 
-    /// One event. If it is accepted, it alters its own part alone: an action adds itself and moves the
-    /// workflow's state, a grant or withdrawal alters one bit, a close sets the mark.
+    /// One event. If it is accepted, it alters its own part alone: an action adds itself, moves the
+    /// workflow's state and sets the status anew, a grant or withdrawal alters one bit, a close sets the
+    /// mark and the status.
     ///
     /// After an action that is accepted or not possible the workspace speaks of the taken actions
-    /// and that one; after a close that is accepted or not satisfied, of the taken actions.
+    /// and that one. Every other event and answer leaves it as it was.
     ///
     /// # Errors
     /// The first that applies of [`Monitor`](Refusal::Monitor), [`Closed`](Refusal::Closed),
@@ -113,13 +117,23 @@ impl Monitor {
         refusal::accepted(Calls::LINKED.event(&mut self.raw, word, workspace.words_mut()))
     }
 
-    /// Where the monitor stands, whatever the workflow's state. The workspace then speaks of the taken
-    /// actions.
+    /// Closes the monitor: [`event`](Self::event) with [`Event::Close`], for which no workspace is
+    /// needed, since a close judges no action.
+    ///
+    /// # Errors
+    /// The first that applies of [`Monitor`](Refusal::Monitor), [`Closed`](Refusal::Closed) and
+    /// [`NotSatisfied`](Refusal::NotSatisfied).
+    pub fn close(&mut self) -> Result<(), Refusal> {
+        refusal::accepted(Calls::LINKED.event(&mut self.raw, Event::Close.word(), &mut []))
+    }
+
+    /// Where the monitor stands, whatever the workflow's state. The monitor keeps its status, so this
+    /// judges no action, and may be asked whenever it is shown.
     ///
     /// # Errors
     /// [`Monitor`](Refusal::Monitor).
-    pub fn status(&self, workspace: &mut Workspace) -> Result<Status, Refusal> {
-        refusal::status(Calls::LINKED.status(&self.raw, workspace.words_mut()))
+    pub fn status(&self) -> Result<Status, Refusal> {
+        refusal::status(Calls::LINKED.status(&self.raw))
     }
 
     /// The users who may act: those whose action with this number would be accepted now. A closed
@@ -226,17 +240,46 @@ impl Monitor {
     }
 
     /// The monitor in bytes: C's layout of it, each number low byte first. Keep [`LAYOUT`] beside
-    /// them.
+    /// them; [`reload`](Self::reload) asks for it.
     pub fn to_bytes(&self) -> [u8; Self::BYTES] {
         self.raw.to_bytes()
     }
 
-    /// The monitor that was stored in these bytes.
+    /// The monitor that was stored in these bytes under this layout.
     ///
-    /// Bytes that no monitor was stored in may give one that is malformed. Each call on it answers
-    /// [`Refusal::Monitor`], and [`policy`](Self::policy), [`user_roles`](Self::user_roles),
-    /// [`permissions`](Self::permissions), [`transitions`](Self::transitions) and
-    /// [`actions`](Self::actions) give no more of it than there is.
+    /// # Errors
+    /// The first that applies of [`Layout`](ReloadFault::Layout), [`Length`](ReloadFault::Length) and
+    /// [`Malformed`](ReloadFault::Malformed). What is reloaded is well formed.
+    ///
+    /// # Example
+    ///
+    /// ```
+    /// use oskhrein::{Monitor, ReloadFault, Term, LAYOUT};
+    ///
+    /// # fn main() -> Result<(), Box<dyn std::error::Error>> {
+    /// let quote = Monitor::open(1, 1, Term::everyone().words(), &[1])?;
+    /// let (layout, bytes) = (LAYOUT, quote.to_bytes());
+    /// assert_eq!(Monitor::reload(layout, &bytes)?, quote);
+    /// assert_eq!(Monitor::reload(3, &bytes), Err(ReloadFault::Layout(3)));
+    /// # Ok(())
+    /// # }
+    /// ```
+    pub fn reload(layout: u32, bytes: &[u8]) -> Result<Monitor, ReloadFault> {
+        if layout != LAYOUT {
+            return Err(ReloadFault::Layout(layout));
+        }
+        let bytes = bytes.try_into().map_err(|_| ReloadFault::Length(bytes.len()))?;
+        let monitor = Monitor::from_bytes(bytes);
+        monitor.status().map(|_| monitor).map_err(|_| ReloadFault::Malformed)
+    }
+
+    /// The monitor that these bytes are, whatever they are.
+    ///
+    /// Bytes that no monitor was stored in may give one that is malformed, and those that a version
+    /// before 0.6.0 stored always do. Each call on it answers [`Refusal::Monitor`], and
+    /// [`policy`](Self::policy), [`user_roles`](Self::user_roles), [`permissions`](Self::permissions),
+    /// [`transitions`](Self::transitions) and [`actions`](Self::actions) give no more of it than there
+    /// is.
     pub fn from_bytes(bytes: &[u8; Self::BYTES]) -> Monitor {
         Monitor::from_raw(raw::Monitor::from_bytes(bytes))
     }

@@ -90,11 +90,7 @@ exported! {
         workspace: *mut u32,
         n_workspace: usize,
     ) -> u8;
-    status: oskhrein_status(
-        monitor: *const Monitor,
-        workspace: *mut u32,
-        n_workspace: usize,
-    ) -> u8;
+    status: oskhrein_status(monitor: *const Monitor) -> u8;
     enabled: oskhrein_enabled(
         monitor: *const Monitor,
         action: u8,
@@ -155,18 +151,17 @@ impl Calls {
         }
     }
 
-    /// One event.
+    /// One event. For a word of kind 4, a close's, the workspace may have any length.
     pub fn event(&self, monitor: &mut Monitor, word: u32, workspace: &mut [u32]) -> u8 {
         let (workspace, n_workspace) = (workspace.as_mut_ptr(), workspace.len());
         // SAFETY: 1 to 3 by the parameters' types.
         unsafe { (self.event)(monitor, word, workspace, n_workspace) }
     }
 
-    /// The status.
-    pub fn status(&self, monitor: &Monitor, workspace: &mut [u32]) -> u8 {
-        let (workspace, n_workspace) = (workspace.as_mut_ptr(), workspace.len());
-        // SAFETY: 1 to 3 by the parameters' types.
-        unsafe { (self.status)(monitor, workspace, n_workspace) }
+    /// The status, which is the letter that a well-formed monitor keeps.
+    pub fn status(&self, monitor: &Monitor) -> u8 {
+        // SAFETY: 1 to 3 by the parameter's type.
+        unsafe { (self.status)(monitor) }
     }
 
     /// The users whose action with this number would be accepted, bit u for user u. A refusal leaves

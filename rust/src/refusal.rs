@@ -11,9 +11,8 @@ use crate::status::Status;
 /// The first four are faults of a policy, and have a [`place`](Self::place) among its words, counted
 /// from 0.
 ///
-/// A refused call leaves everything as it was. Only after
-/// [`NotPossible`](Self::NotPossible) and [`NotSatisfied`](Self::NotSatisfied) does the workspace
-/// speak of the actions that were judged.
+/// A refused call leaves everything as it was. Only after [`NotPossible`](Self::NotPossible) does the
+/// workspace speak of the actions that were judged.
 ///
 /// # Example
 ///
@@ -65,17 +64,18 @@ pub enum Refusal {
     NotPossible,
     /// 10: The monitor is closed.
     Closed,
-    /// 11: A close, but the taken actions do not satisfy the policy, or the workflow is in no final
-    /// state.
+    /// 11: A close, but the taken actions do not satisfy the policy, which the status tells, or the
+    /// workflow is in no final state.
     NotSatisfied,
-    /// 12: The workspace is shorter than 8,192 words. A [`Workspace`](crate::Workspace) never is.
+    /// 12: The workspace is shorter than 8,192 words. A [`Workspace`](crate::Workspace) never is, and a
+    /// close needs none.
     Workspace,
     /// 13: The output is shorter than the policy.
     Output,
     /// 14: A case file is malformed. No call of this crate reads one.
     Case,
-    /// 15: The monitor is malformed. Only one that was made from bytes can be. Its policy may be at
-    /// fault, but no place is given.
+    /// 15: The monitor is malformed, its status letter perhaps. Only one that was made from bytes can
+    /// be. Its policy may be at fault, but no place is given.
     Monitor,
     /// 16: No role that the user holds now gives the action.
     NotAuthorized,

@@ -62,10 +62,10 @@ use crate::workflow::Workflow;
 /// assert_eq!(payment.enabled(3, &mut workspace)?.iter().collect::<Vec<u8>>(), [claire]);
 /// payment.event(does(claire, 3), &mut workspace)?;
 /// // the policy is satisfied, but the check is not issued: state 3 is not final
-/// assert_eq!(payment.status(&mut workspace)?.letter(), 'c');
-/// assert_eq!(payment.event(Event::Close, &mut workspace), Err(Refusal::NotSatisfied));
+/// assert_eq!(payment.status()?.letter(), 'c');
+/// assert_eq!(payment.close(), Err(Refusal::NotSatisfied));
 /// payment.event(does(alice, 4), &mut workspace)?;
-/// payment.event(Event::Close, &mut workspace)?;
+/// payment.close()?;
 /// # Ok(())
 /// # }
 /// ```

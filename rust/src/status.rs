@@ -2,8 +2,9 @@
 
 use std::fmt;
 
-/// Where a monitor stands. It does not look at the workflow: a complete monitor whose workflow is in
-/// no final state is not closed yet.
+/// Where a monitor stands. The monitor keeps it: an opening, each accepted action and an accepted close
+/// set it, and nothing else does. It does not look at the workflow: a complete monitor whose workflow is
+/// in no final state is not closed yet.
 #[derive(Clone, Copy, Debug, PartialEq, Eq, Hash)]
 pub enum Status {
     /// Not closed, and the taken actions do not satisfy the policy.

@@ -8,7 +8,8 @@ use crate::raw::WORKSPACE_WORDS;
 /// j for the action at place j, from 0. [`satisfied`](Self::satisfied) and
 /// [`possible`](Self::possible) tell of each set below 2ⁿ; beyond that all is zero.
 ///
-/// One workspace serves any number of monitors, one call after the other.
+/// One workspace serves any number of monitors, one call after the other. The status and a close need
+/// none.
 #[derive(Clone, Debug, PartialEq, Eq)]
 pub struct Workspace {
     words: Box<[u32; Workspace::WORDS]>,

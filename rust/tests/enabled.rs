@@ -2,7 +2,7 @@
 
 mod common;
 
-use common::{open_l, EVENTS_L};
+use common::{marked, open_l, EVENTS_L};
 use oskhrein::raw::Calls;
 use oskhrein::{Event, Monitor, Refusal, Status, Users, Workspace, MAX_USERS};
 
@@ -33,13 +33,6 @@ fn plus_everyone(actions: usize) -> Monitor {
         monitor.event(action(1), &mut Workspace::new()).expect("it is taken");
     }
     monitor
-}
-
-/// A workspace in which a call that fills it is seen.
-fn marked() -> Workspace {
-    let mut workspace = Workspace::new();
-    plus_everyone(2).status(&mut workspace).expect("it is well formed");
-    workspace
 }
 
 /// Numbers that look random.
@@ -140,10 +133,10 @@ fn nobody_may_act_on_a_full_or_closed_monitor() {
     assert_eq!(full.enabled(0, &mut workspace), Ok(Users::default()));
     assert_eq!(workspace, marked());
     let mut closed = plus_everyone(1);
-    closed.event(Event::Close, &mut Workspace::new()).expect("it satisfies");
+    closed.close().expect("it satisfies");
     assert_eq!(closed.enabled(0, &mut workspace), Ok(Users::default()));
     assert_eq!(workspace, marked());
-    assert_eq!(closed.status(&mut workspace), Ok(Status::Closed));
+    assert_eq!(closed.status(), Ok(Status::Closed));
 }
 
 #[test]

@@ -151,7 +151,7 @@ fn no_other_refusal_has_a_place() {
     let mut monitor = open_l();
     without_place(monitor.event_word(0, &mut workspace), 7);
     without_place(monitor.event(Event::Action { user: 2, number: 0 }, &mut workspace), 9);
-    without_place(monitor.event(Event::Close, &mut workspace), 11);
+    without_place(monitor.close(), 11);
 }
 
 #[test]
@@ -161,8 +161,8 @@ fn fifteen_has_no_place_though_a_policy_be_its_cause() {
         let mut raw = *open_l().as_raw();
         raw.instance.policy[at] = word;
         let mut monitor = Monitor::from_raw(raw);
-        without_place(monitor.event(Event::Close, &mut workspace), 15);
-        without_place(monitor.status(&mut workspace), 15);
+        without_place(monitor.close(), 15);
+        without_place(monitor.status(), 15);
         without_place(monitor.enabled(0, &mut workspace), 15);
     }
 }

@@ -3,7 +3,7 @@
 
 mod common;
 
-use common::{number, open_l, POLICY_F};
+use common::{marked, number, open_l, POLICY_F};
 use oskhrein::{normal_form, satisfies, Event, Monitor, Refusal, Workspace, MAX_WORDS};
 
 const EVERYONE: u32 = 0x01000000;
@@ -23,13 +23,6 @@ fn opened(users: u8, roles: u8, policy: &[u32], rows: &[u16]) -> u8 {
 /// A monitor of plus everyone: two users with a role, one without.
 fn plus_everyone() -> Monitor {
     Monitor::open(3, 2, &[PLUS, EVERYONE], &[1, 2, 0]).expect("it opens")
-}
-
-/// A workspace that speaks of no action, in which a call that fills it for others is seen.
-fn marked() -> Workspace {
-    let mut workspace = Workspace::new();
-    plus_everyone().status(&mut workspace).expect("it is well formed");
-    workspace
 }
 
 #[test]
@@ -118,16 +111,18 @@ fn a_refused_action_fills_the_workspace_alone() {
 }
 
 #[test]
-fn a_refused_close_fills_the_workspace_alone() {
+fn a_close_leaves_the_workspace_alone() {
     let mut monitor = plus_everyone();
-    let mut workspace = Workspace::new();
+    let mut workspace = marked();
     assert_eq!(monitor.event(Event::Close, &mut workspace), Err(Refusal::NotSatisfied));
     assert!(!monitor.is_closed());
-    assert_eq!((workspace.satisfied(0), workspace.possible(0)), (0, 0b11));
+    assert_eq!(workspace, marked());
     assert_eq!(monitor.event(action(0), &mut workspace), Ok(()));
     assert_eq!((workspace.satisfied(1), workspace.possible(1)), (0b11, 0b11));
+    let filled = workspace.clone();
     assert_eq!(monitor.event(Event::Close, &mut workspace), Ok(()));
     assert!(monitor.is_closed());
+    assert_eq!(workspace, filled);
 }
 
 #[test]

@@ -4,7 +4,7 @@ mod common;
 
 use common::{open_l, open_payment, payment, step, EVENTS_L, POLICY_F};
 use oskhrein::raw::Calls;
-use oskhrein::{Event, Monitor, Refusal, Status, Users, Workspace, LAYOUT};
+use oskhrein::{Event, Monitor, Refusal, ReloadFault, Status, Users, Workspace, LAYOUT};
 
 /// The bytes of listing L's monitor with its first two actions.
 fn stored() -> [u8; Monitor::BYTES] {
@@ -28,14 +28,23 @@ fn stored_payment() -> [u8; Monitor::BYTES] {
 fn is_malformed(stored: &[u8; Monitor::BYTES], place: usize, byte: u8) -> bool {
     let mut bytes = *stored;
     bytes[place] = byte;
-    let mut monitor = Monitor::from_bytes(&bytes);
+    is_refused(&bytes)
+}
+
+/// Whether these bytes are no monitor: by every call on one, which then alters nothing, and by a reload.
+fn is_refused(bytes: &[u8; Monitor::BYTES]) -> bool {
+    let mut monitor = Monitor::from_bytes(bytes);
     let mut workspace = Workspace::new();
-    let status = monitor.status(&mut workspace);
+    let status = monitor.status();
     let users = monitor.enabled(0, &mut workspace);
+    let close = monitor.clone().close();
     let event = monitor.event(Event::Grant { user: 0, role: 1 }, &mut workspace);
-    assert_eq!((status.is_err(), users.is_err()), (event.is_err(), event.is_err()));
-    let refused = Some(Refusal::Monitor);
-    status.err() == refused && users.err() == refused && event.err() == refused
+    let refused = [status.err(), users.err(), close.err(), event.err()]
+        .map(|refusal| refusal == Some(Refusal::Monitor));
+    assert_eq!(refused, [refused[0]; 4]);
+    let reloaded = Monitor::reload(LAYOUT, bytes);
+    assert_eq!(reloaded.err(), refused[0].then_some(ReloadFault::Malformed));
+    refused[0] && monitor.to_bytes() == *bytes
 }
 
 #[test]
@@ -44,7 +53,7 @@ fn reloaded_at_every_step() {
     for mut kept in [open_l(), open_payment()] {
         let mut reloaded = kept.clone();
         for word in EVENTS_L {
-            reloaded = Monitor::from_bytes(&reloaded.to_bytes());
+            reloaded = Monitor::reload(LAYOUT, &reloaded.to_bytes()).expect("it was stored");
             let answers = [&mut kept, &mut reloaded].map(|i| step(i, word, &mut workspace));
             assert_eq!(answers[0], answers[1]);
             assert_eq!(kept, reloaded);
@@ -67,7 +76,7 @@ fn bytes_are_in_the_layout_of_c() {
     assert_eq!(bytes[292..300], [0, 0, 0, 0, 0, 1 << 1, 0, 0]);
     assert_eq!(bytes[300..308], [1, 0, 0, 0, 1 << 2 | 1 << 6 | 1 << 7, 1 << 1, 0, 0]);
     assert_eq!(bytes[308..584], [0; 276]);
-    assert_eq!(bytes[584..], [10, 0, 2, 0, 0, 0, 0, 0]);
+    assert_eq!(bytes[584..], [10, 2, 0, b'o', 0, 0, 0, 0]);
 }
 
 #[test]
@@ -80,7 +89,7 @@ fn permissions_and_workflow_are_in_the_layout_of_c() {
     assert_eq!(bytes[388..409], *transitions);
     assert_eq!(bytes[409..580], [0; 171]);
     assert_eq!(bytes[580..584], [1 << 4, 0, 5, 7]);
-    assert_eq!(bytes[584..], [10, 0, 2, 0, 2, 0, 0, 0]);
+    assert_eq!(bytes[584..], [10, 2, 0, b'o', 2, 0, 0, 0]);
 }
 
 #[test]
@@ -107,37 +116,87 @@ fn stored_in_layout_2() -> [u8; 260] {
     bytes
 }
 
-/// The bytes of layout 3 that say the same, each field at its new place and all else zero.
-fn moved(old: &[u8; 260]) -> [u8; Monitor::BYTES] {
-    let mut bytes = [0; Monitor::BYTES];
-    for (from, to, length) in
-        [(0, 128, 32), (32, 160, 2), (34, 164, 2), (36, 168, 220), (256, 584, 4)]
-    {
-        bytes[to..to + length].copy_from_slice(&old[from..from + length]);
+#[test]
+fn bytes_of_layout_2_are_malformed() {
+    let old = stored_in_layout_2();
+    assert_eq!(Monitor::reload(2, &old), Err(ReloadFault::Layout(2)));
+    for start in [0, Monitor::BYTES - old.len()] {
+        let mut bytes = [0; Monitor::BYTES];
+        bytes[start..start + old.len()].copy_from_slice(&old);
+        assert!(is_refused(&bytes));
     }
+}
+
+/// A monitor as 0.5.0 stored it under layout 3: apart(role 0, role 1) for two users and two roles, of
+/// whom one counted, then the other approved, and closed if the mark is 1.
+fn stored_in_layout_3(taken: u8, mark: u8) -> [u8; Monitor::BYTES] {
+    let mut bytes = [0; Monitor::BYTES];
+    bytes[128..132].copy_from_slice(&[1, 0, 2, 0]);
+    bytes[160..168].copy_from_slice(&[2, 0, 0, 0, 2, 0, 0, 0]);
+    for (place, word) in [0x09000000u32, 0x02000000, 0x02000001].iter().enumerate() {
+        bytes[168 + 4 * place..172 + 4 * place].copy_from_slice(&word.to_le_bytes());
+    }
+    let actions = [[0, 0, 0, 0, 1 << 1, 0, 0, 0], [1, 0, 0, 0, 1 << 2, 0, 0, 0]];
+    for (place, action) in actions.iter().enumerate().take(taken.into()) {
+        bytes[292 + 8 * place..300 + 8 * place].copy_from_slice(action);
+    }
+    // two bytes count the words, one the actions, then comes the mark
+    bytes[584..588].copy_from_slice(&[3, 0, taken, mark]);
+    bytes
+}
+
+/// A monitor as layout 3 would store it.
+fn in_layout_3(monitor: &Monitor) -> [u8; Monitor::BYTES] {
+    let mut bytes = monitor.to_bytes();
+    let own = &monitor.as_raw().instance;
+    bytes[584..588].copy_from_slice(&[own.words, 0, own.taken, own.closed]);
     bytes
 }
 
 #[test]
-fn bytes_of_layout_2_are_malformed() {
-    let old = stored_in_layout_2();
-    for start in [0, Monitor::BYTES - old.len()] {
-        let mut bytes = [0; Monitor::BYTES];
-        bytes[start..start + old.len()].copy_from_slice(&old);
-        let mut monitor = Monitor::from_bytes(&bytes);
-        let mut workspace = Workspace::new();
-        assert_eq!(monitor.status(&mut workspace), Err(Refusal::Monitor));
-        assert_eq!(monitor.event(Event::Close, &mut workspace), Err(Refusal::Monitor));
+fn bytes_of_layout_3_are_malformed() {
+    for (taken, mark) in [(0, 0), (1, 0), (2, 0), (2, 1)] {
+        assert!(is_refused(&stored_in_layout_3(taken, mark)), "{taken} taken, mark {mark}");
     }
+    // where the letter stands, they have the mark, which is 0 or 1
+    let mut workspace = Workspace::new();
+    for mut monitor in [open_l(), open_payment()] {
+        assert!(is_refused(&in_layout_3(&monitor)));
+        for word in EVENTS_L {
+            let _ = monitor.event_word(word, &mut workspace);
+            assert!(is_refused(&in_layout_3(&monitor)), "{word:08x}");
+        }
+    }
+    assert!(is_refused(&[0; Monitor::BYTES]), "the blank one, the same in both");
 }
 
 #[test]
-fn a_monitor_of_layout_2_goes_on_with_its_fields_moved() -> Result<(), Refusal> {
-    let mut monitor = Monitor::from_bytes(&moved(&stored_in_layout_2()));
+fn an_earlier_layout_is_told_and_what_to_do() {
+    let fault = Monitor::reload(3, &stored_in_layout_3(2, 0)).expect_err("it is refused");
+    assert_eq!(fault, ReloadFault::Layout(3));
+    let told = fault.to_string();
+    assert!(told.contains("layout 3") && told.contains("has no status letter"), "{told}");
+    assert!(told.contains("open it anew and send its accepted events again"), "{told}");
+    assert_eq!(Monitor::reload(LAYOUT + 1, &stored()), Err(ReloadFault::Layout(LAYOUT + 1)));
+    assert_eq!(Monitor::reload(LAYOUT, &stored()[1..]), Err(ReloadFault::Length(591)));
+    assert_eq!(Monitor::reload(LAYOUT, &[]), Err(ReloadFault::Length(0)));
+}
+
+#[test]
+fn opened_anew_and_sent_its_events_it_has_the_letter() -> Result<(), Refusal> {
+    let policy = [0x09000000, 0x02000000, 0x02000001];
     let mut workspace = Workspace::new();
-    assert_eq!(monitor.status(&mut workspace)?, Status::Complete);
-    assert_eq!(monitor.actions().len(), 2);
-    monitor.event(Event::Close, &mut workspace)
+    let mut anew = Monitor::open(2, 2, &policy, &[1, 2])?;
+    for (taken, status) in [(0, Status::Open), (1, Status::Open), (2, Status::Complete)] {
+        assert_eq!(anew.status(), Ok(status));
+        assert_eq!(in_layout_3(&anew), stored_in_layout_3(taken, 0));
+        if taken < 2 {
+            anew.event(Event::Action { user: taken, number: 0 }, &mut workspace)?;
+        }
+    }
+    anew.close()?;
+    assert_eq!((anew.status(), in_layout_3(&anew)), (Ok(Status::Closed), stored_in_layout_3(2, 1)));
+    Ok(())
 }
 
 #[test]
@@ -163,10 +222,15 @@ fn every_part_of_fifteen() {
         ("an unused place's bits", 312, 4),
         ("word count", 584, 9),
         ("word count above 31", 584, 200),
-        ("word count, high byte", 585, 1),
-        ("actions above twelve", 586, 13),
-        ("actions above the array", 586, 255),
-        ("fewer actions", 586, 1),
+        ("actions above twelve", 585, 13),
+        ("actions above the array", 585, 255),
+        ("fewer actions", 585, 1),
+        ("the mark without its letter", 586, 1),
+        ("any mark without its letter", 586, 255),
+        ("the letter without its mark", 587, b'd'),
+        ("no letter", 587, 0),
+        ("a letter of a multiset test", 587, b'y'),
+        ("a capital letter", 587, b'C'),
     ];
     for (what, place, byte) in wrong {
         assert!(is_malformed(&stored(), place, byte), "{what}");
@@ -239,17 +303,34 @@ fn every_byte_is_kept() {
 #[test]
 fn every_mark_but_0_is_closed() {
     let mut workspace = Workspace::new();
-    for mark in 0..=u8::MAX {
+    for mark in 1..=u8::MAX {
         let mut bytes = stored();
-        bytes[587] = mark;
-        let mut monitor = Monitor::from_bytes(&bytes);
-        assert_eq!(monitor.is_closed(), mark != 0);
-        assert_eq!(monitor.status(&mut workspace) == Ok(Status::Closed), mark != 0);
-        assert_eq!(monitor.enabled(0, &mut workspace).map(Users::is_empty), Ok(mark != 0));
-        let event = monitor.event(Event::Close, &mut workspace);
-        let refused = if mark == 0 { Refusal::NotSatisfied } else { Refusal::Closed };
-        assert_eq!(event, Err(refused));
+        bytes[586..588].copy_from_slice(&[mark, b'd']);
+        let mut monitor = Monitor::reload(LAYOUT, &bytes).expect("it is well formed");
+        assert!(monitor.is_closed());
+        assert_eq!(monitor.status(), Ok(Status::Closed));
+        assert_eq!(monitor.enabled(0, &mut workspace).map(Users::is_empty), Ok(true));
+        assert_eq!(monitor.close(), Err(Refusal::Closed));
         assert_eq!(monitor.to_bytes(), bytes);
+    }
+}
+
+#[test]
+fn every_mark_with_every_letter() {
+    let (none, two) = (open_l().to_bytes(), stored());
+    for pair in 0..=u16::MAX {
+        let [mark, letter] = pair.to_le_bytes();
+        let status = |stored: &[u8; Monitor::BYTES]| {
+            let mut bytes = *stored;
+            bytes[586..588].copy_from_slice(&[mark, letter]);
+            Monitor::from_bytes(&bytes).status().map(|status| status.letter() as u8)
+        };
+        let closed = mark != 0 && letter == b'd';
+        let open = mark == 0 && letter == b'o';
+        let complete = mark == 0 && letter == b'c';
+        let told = |well: bool| if well { Ok(letter) } else { Err(Refusal::Monitor) };
+        assert_eq!(status(&two), told(closed || open || complete), "mark {mark}, {letter}");
+        assert_eq!(status(&none), told(closed || open), "mark {mark}, {letter}, no action");
     }
 }
 
@@ -267,7 +348,7 @@ fn any_bytes_are_answered() {
         assert!(monitor.policy().len() <= 31 && monitor.actions().len() <= 12);
         assert!(monitor.user_roles().len() <= 16 && monitor.permissions().len() <= 16);
         assert!(monitor.transitions().len() <= 64);
-        let status = monitor.status(&mut workspace);
+        let status = monitor.status();
         let users = monitor.enabled(5, &mut workspace);
         let event = monitor.event(Event::Action { user: 0, number: 5 }, &mut workspace);
         assert_eq!(status == Err(Refusal::Monitor), event == Err(Refusal::Monitor));

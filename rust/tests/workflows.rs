@@ -3,7 +3,7 @@
 
 mod common;
 
-use common::{number, open_l, open_payment, payment, step, EVENTS_L, POLICY_F};
+use common::{marked, number, open_l, open_payment, payment, step, EVENTS_L, POLICY_F};
 use oskhrein::{
     Event, Monitor, Permissions, Refusal, SecureWorkflow, Status, Transition, Workflow,
     WorkflowFault, Workspace, MAX_TRANSITIONS,
@@ -34,13 +34,6 @@ fn bytes(states: u8, final_states: u16, transitions: &[[u8; 3]]) -> Vec<u8> {
     let mut all = vec![states, transitions.len() as u8, low, high];
     all.extend(transitions.concat());
     all
-}
-
-/// A workspace that speaks of no action, in which a call that fills it for others is seen.
-fn marked() -> Workspace {
-    let mut workspace = Workspace::new();
-    open_l().status(&mut workspace).expect("it is well formed");
-    workspace
 }
 
 /// The numbers and letters with which events of the payment workflow are answered.
@@ -211,10 +204,9 @@ fn a_workflow_without_a_final_state_never_closes() {
     let (mut monitor, mut workspace) = (opened.expect("it opens"), Workspace::new());
     for _ in 0..12 {
         monitor.event(action(0, 0), &mut workspace).expect("it is taken");
-        assert_eq!(monitor.status(&mut workspace), Ok(Status::Complete));
-        assert_eq!(monitor.event(Event::Close, &mut workspace), Err(Refusal::NotSatisfied));
+        assert_eq!(monitor.status(), Ok(Status::Complete));
+        assert_eq!(monitor.close(), Err(Refusal::NotSatisfied));
     }
-    assert_eq!(workspace.satisfied(1), 0b11, "a refused close fills the workspace");
 }
 
 #[test]

@@ -15,9 +15,10 @@ static unsigned act(struct oskhrein_monitor *quote, uint16_t *enabled, uint8_t u
     return code;
 }
 
-static void show(uint16_t enabled)
+/* The status is kept in the quote, and may be asked for whenever the screen is drawn. */
+static void show(const struct oskhrein_monitor *quote, uint16_t enabled)
 {
-    printf("may act:");
+    printf("status %c, may act:", oskhrein_status(quote));
     for (unsigned user = 0; user < OSKHREIN_MAX_USERS; user++)
         if (enabled >> user & 1)
             printf(" %u", user);
@@ -44,13 +45,12 @@ int main(void)
         return 1; /* with 1 to 4, place says which word of the policy is at fault */
     if (oskhrein_enabled(&quote, 0, workspace, OSKHREIN_WORKSPACE_WORDS, &enabled) != OSKHREIN_ACCEPTED)
         return 1;
-    show(enabled);
+    show(&quote, enabled);
     printf("user 1 acts: %u\n", act(&quote, &enabled, 1));
-    show(enabled);
+    show(&quote, enabled);
     printf("user 1 acts again: %u\n", act(&quote, &enabled, 1));
-    show(enabled);
+    show(&quote, enabled);
     printf("user 0 acts: %u\n", act(&quote, &enabled, 0));
-    show(enabled);
-    printf("status: %c\n", oskhrein_status(&quote, workspace, OSKHREIN_WORKSPACE_WORDS));
+    show(&quote, enabled);
     return 0;
 }

@@ -76,8 +76,9 @@ static void version_and_layout(void)
     CHECK(offsetof(struct oskhrein_instance, actions) == 124);
     CHECK(offsetof(struct oskhrein_instance, workflow) == 220);
     CHECK(offsetof(struct oskhrein_instance, words) == 416);
-    CHECK(offsetof(struct oskhrein_instance, taken) == 418);
-    CHECK(offsetof(struct oskhrein_instance, closed) == 419);
+    CHECK(offsetof(struct oskhrein_instance, taken) == 417);
+    CHECK(offsetof(struct oskhrein_instance, closed) == 418);
+    CHECK(offsetof(struct oskhrein_instance, status) == 419);
     CHECK(offsetof(struct oskhrein_instance, state) == 420);
     CHECK(sizeof(struct oskhrein_monitor) == 592);
     CHECK(offsetof(struct oskhrein_monitor, instance) == 168);
@@ -115,6 +116,7 @@ static void opening(void)
     want.configuration.roles = 3;
     memcpy(want.instance.policy, POLICY_F, sizeof POLICY_F);
     want.instance.words = WORDS_F;
+    want.instance.status = OSKHREIN_STATUS_OPEN;
     memset(&monitor, 0xa5, sizeof monitor);
     CHECK(open_l(&monitor) == OSKHREIN_ACCEPTED);
     CHECK(same(&monitor, &want));
@@ -143,7 +145,7 @@ static void listing_l(void)
     check(open_l(&monitor) == OSKHREIN_ACCEPTED, "listing L opens");
     for (size_t i = 0; i < sizeof events / sizeof *events; i++) {
         unsigned code = oskhrein_event(&monitor, events[i], workspace, OSKHREIN_WORKSPACE_WORDS);
-        unsigned letter = oskhrein_status(&monitor, workspace, OSKHREIN_WORKSPACE_WORDS);
+        unsigned letter = oskhrein_status(&monitor);
         snprintf(line, sizeof line, "%u %u %c", (unsigned)i + 1, code, (char)letter);
         check(strcmp(line, want[i]) == 0, want[i]);
     }
@@ -176,7 +178,7 @@ static void multisets(void)
     CHECK(workspace_is(GUARD));
 }
 
-/* A refusal gives only its number: monitor and workspace keep what they had, but for 9 and 11 the workspace. */
+/* A refusal gives only its number: monitor and workspace keep what they had, but for 9 the workspace. */
 static void refusals(void)
 {
     struct oskhrein_monitor monitor = OSKHREIN_BLANK;
@@ -186,7 +188,6 @@ static void refusals(void)
     before = monitor;
     fill_workspace(GUARD);
     CHECK(oskhrein_event(&monitor, 0x01000001, workspace, OSKHREIN_WORKSPACE_WORDS - 1) == OSKHREIN_WORKSPACE);
-    CHECK(oskhrein_status(&monitor, workspace, OSKHREIN_WORKSPACE_WORDS - 1) == OSKHREIN_WORKSPACE);
     CHECK(oskhrein_event(&monitor, 0x01000301, workspace, OSKHREIN_WORKSPACE_WORDS) == OSKHREIN_MALFORMED);
     CHECK(same(&monitor, &before) && workspace_is(GUARD));
 
@@ -195,19 +196,20 @@ static void refusals(void)
 
     /* Every mark but 0 is closed, and any bytes are answered. */
     monitor.instance.closed = 2;
+    monitor.instance.status = OSKHREIN_STATUS_CLOSED;
     before = monitor;
-    CHECK(oskhrein_status(&monitor, workspace, OSKHREIN_WORKSPACE_WORDS) == OSKHREIN_STATUS_CLOSED);
+    CHECK(oskhrein_status(&monitor) == OSKHREIN_STATUS_CLOSED);
     CHECK(oskhrein_event(&monitor, 0x01000001, workspace, OSKHREIN_WORKSPACE_WORDS) == OSKHREIN_CLOSED);
     CHECK(same(&monitor, &before));
     memset(&monitor, 0xa5, sizeof monitor);
-    CHECK(oskhrein_status(&monitor, workspace, OSKHREIN_WORKSPACE_WORDS) == OSKHREIN_MONITOR);
+    CHECK(oskhrein_status(&monitor) == OSKHREIN_MONITOR);
 
     CHECK(open_l(&monitor) == OSKHREIN_ACCEPTED);
     monitor.instance.taken = 13;
     before = monitor;
     fill_workspace(GUARD);
     CHECK(oskhrein_event(&monitor, 0x01000001, workspace, OSKHREIN_WORKSPACE_WORDS) == OSKHREIN_MONITOR);
-    CHECK(oskhrein_status(&monitor, workspace, OSKHREIN_WORKSPACE_WORDS) == OSKHREIN_MONITOR);
+    CHECK(oskhrein_status(&monitor) == OSKHREIN_MONITOR);
     CHECK(same(&monitor, &before) && workspace_is(GUARD));
 }
 
@@ -261,6 +263,7 @@ static void enabled(void)
     CHECK(users == 0xa5a5 && workspace_is(GUARD));
 
     before.instance.closed = 2;
+    before.instance.status = OSKHREIN_STATUS_CLOSED;
     CHECK(oskhrein_enabled(&before, 0, workspace, OSKHREIN_WORKSPACE_WORDS, &users) == OSKHREIN_ACCEPTED);
     check(users == 0 && workspace_is(GUARD), "nobody may act on a closed monitor");
 

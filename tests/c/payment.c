@@ -164,7 +164,7 @@ static void payment(void)
 
     CHECK(grant(&monitor, BOB, MANAGER) == OSKHREIN_ACCEPTED && grant(&monitor, CLAIRE, MANAGER) == OSKHREIN_ACCEPTED);
     CHECK(act(&monitor, CLAIRE, APPROVE) == OSKHREIN_ACCEPTED && monitor.instance.state == 3);
-    CHECK(oskhrein_status(&monitor, workspace, OSKHREIN_WORKSPACE_WORDS) == OSKHREIN_STATUS_COMPLETE);
+    CHECK(oskhrein_status(&monitor) == OSKHREIN_STATUS_COMPLETE);
     check(close_it(&monitor) == OSKHREIN_NOT_SATISFIED, "satisfied, but in no final state");
     CHECK(act(&monitor, ALICE, ISSUE) == OSKHREIN_ACCEPTED && monitor.instance.state == 4);
     CHECK(close_it(&monitor) == OSKHREIN_ACCEPTED && monitor.instance.taken == 4);

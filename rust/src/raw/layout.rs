@@ -5,7 +5,7 @@ use std::mem::{align_of, offset_of, size_of};
 
 /// The number of the layout below, another one whenever a field comes, goes, moves or means
 /// something else. Keep it beside stored bytes, and reload only what was stored under it.
-pub const LAYOUT: u32 = 3;
+pub const LAYOUT: u32 = 4;
 
 /// The most words that a policy may have.
 pub const MAX_WORDS: usize = 31;
@@ -81,8 +81,8 @@ pub struct Workflow {
     pub count: u8,
 }
 
-/// A policy, the actions taken under it in order of arrival, the closed mark, and a workflow with its
-/// present state. Words and places past their numbers are zero.
+/// A policy, the actions taken under it in order of arrival, the closed mark, the status, and a workflow
+/// with its present state. Words and places past their numbers are zero.
 #[repr(C)]
 #[derive(Clone, Copy, Debug, Default, PartialEq, Eq, Hash)]
 pub struct Instance {
@@ -93,11 +93,14 @@ pub struct Instance {
     /// The workflow.
     pub workflow: Workflow,
     /// The number of the policy's words.
-    pub words: u16,
+    pub words: u8,
     /// The number of the taken actions.
     pub taken: u8,
-    /// Whether the instance is closed: 0 is open, every other value closed.
+    /// Whether the instance is closed: 0 is not closed, every other value closed.
     pub closed: u8,
+    /// The letter of the status: `o`, `c` or `d`. It is `d` exactly if the instance is closed, and `o`
+    /// on one that is not closed and has no action.
+    pub status: u8,
     /// The workflow's present state.
     pub state: u32,
 }
@@ -112,7 +115,7 @@ pub struct Monitor {
     pub instance: Instance,
 }
 
-// Layout 3, with the numbers of the C header: the fields' sizes add up to the structs'. What alters a
+// Layout 4, with the numbers of the C header: the fields' sizes add up to the structs'. What alters a
 // line here alters `LAYOUT`, in the header and in embed too.
 const _: () = {
     assert!(offset_of!(Configuration, permissions) == 0);
@@ -136,10 +139,11 @@ const _: () = {
     assert!(offset_of!(Instance, actions) == 124);
     assert!(offset_of!(Instance, workflow) == 220);
     assert!(offset_of!(Instance, words) == 416);
-    assert!(offset_of!(Instance, taken) == 418);
-    assert!(offset_of!(Instance, closed) == 419);
+    assert!(offset_of!(Instance, taken) == 417);
+    assert!(offset_of!(Instance, closed) == 418);
+    assert!(offset_of!(Instance, status) == 419);
     assert!(offset_of!(Instance, state) == 420);
-    assert!(size_of::<Instance>() == 220 + size_of::<Workflow>() + 2 + 1 + 1 + 4);
+    assert!(size_of::<Instance>() == 220 + size_of::<Workflow>() + 1 + 1 + 1 + 1 + 4);
     assert!(offset_of!(Monitor, configuration) == 0);
     assert!(offset_of!(Monitor, instance) == 168);
     assert!(size_of::<Monitor>() == size_of::<Configuration>() + size_of::<Instance>());
@@ -182,6 +186,7 @@ impl Monitor {
             words: 0,
             taken: 0,
             closed: 0,
+            status: 0,
             state: 0,
         },
     };
@@ -227,8 +232,7 @@ impl Writer {
             self.put(action.met.to_le_bytes());
         }
         self.workflow(&own.workflow);
-        self.put(own.words.to_le_bytes());
-        self.put([own.taken, own.closed]);
+        self.put([own.words, own.taken, own.closed, own.status]);
         self.put(own.state.to_le_bytes());
     }
 
@@ -269,9 +273,10 @@ impl Reader<'_> {
             policy: std::array::from_fn(|_| u32::from_le_bytes(self.take())),
             actions: std::array::from_fn(|_| self.action()),
             workflow: self.workflow(),
-            words: u16::from_le_bytes(self.take()),
+            words: u8::from_le_bytes(self.take()),
             taken: u8::from_le_bytes(self.take()),
             closed: u8::from_le_bytes(self.take()),
+            status: u8::from_le_bytes(self.take()),
             state: u32::from_le_bytes(self.take()),
         }
     }

@@ -1,6 +1,6 @@
 //! What the tests share: document 01's policy F and listing L, and document 004's payment workflow.
 
-use oskhrein::{Monitor, Permissions, Refusal, SecureWorkflow, Workflow, Workspace};
+use oskhrein::{satisfies, Monitor, Permissions, Refusal, SecureWorkflow, Workflow, Workspace};
 
 /// Policy F, Example 3 of document 004.
 pub const POLICY_F: [u32; 10] = [
@@ -30,7 +30,18 @@ pub fn number<T>(answer: Result<T, Refusal>) -> u8 {
 #[allow(dead_code)]
 pub fn step(monitor: &mut Monitor, word: u32, workspace: &mut Workspace) -> (u8, char) {
     let number = number(monitor.event_word(word, workspace));
-    (number, monitor.status(workspace).expect("it is well formed").letter())
+    (number, monitor.status().expect("it is well formed").letter())
+}
+
+/// A workspace that speaks of no action under a policy of 31 words, so that a call which fills it for
+/// another policy is seen.
+#[allow(dead_code)]
+pub fn marked() -> Workspace {
+    let mut policy = [0x06000000; 31];
+    policy[15..].fill(0x01000000);
+    let mut workspace = Workspace::new();
+    satisfies(1, 1, &policy, &[1], &[0; 16], &mut workspace).expect("it is accepted");
+    workspace
 }
 
 /// The payment workflow of document 004, Examples 1 and 2: an accountant (role 0) prepares a check (2),

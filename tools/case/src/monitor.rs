@@ -91,7 +91,7 @@ impl Opened {
     }
 
     /// What a refused close lacks: its number is one for the policy and the workflow.
-    fn missing(&mut self) -> &'static str {
+    fn missing(&self) -> &'static str {
         let ended =
             !self.has_workflow() || self.monitor.final_states() >> self.monitor.state() & 1 == 1;
         match (self.status(), ended) {
@@ -107,8 +107,8 @@ impl Opened {
     }
 
     /// The letter of the status.
-    pub fn status(&mut self) -> char {
-        let status = self.monitor.status(&mut self.workspace);
+    pub fn status(&self) -> char {
+        let status = self.monitor.status();
         status.expect("what was opened and sent events stays well formed").letter()
     }
 
