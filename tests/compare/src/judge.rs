@@ -14,6 +14,7 @@ use crate::leavers::Leavers;
 use crate::refusals::{Files, Openings};
 use crate::report::{Group, Report, Seen};
 use crate::secure::Events;
+use crate::statuses::Steps;
 
 /// The numbers that refuse a case file or its opening.
 const REFUSALS: &[u8] = &[1, 2, 3, 4, 5, 6, 14, 19];
@@ -37,6 +38,7 @@ pub struct Judge {
     faults: Faults,
     leavers: Leavers,
     secure: Events,
+    steps: Steps,
     openings: Openings,
     files: Files,
     events: Seen,
@@ -66,6 +68,7 @@ impl Judge {
             faults: Faults::new("case files", every_number),
             leavers: Leavers::of_events("case files", every_number),
             secure: Events::new("case files", every_number),
+            steps: Steps::new("case files", every_number),
             openings: Openings::new("case files", every_number),
             files: Files::new("case files", every_number),
             events: Seen::new("events", wanted(EVENTS)),
@@ -87,6 +90,7 @@ impl Judge {
         if let Ok(case) = read_case(bytes) {
             self.leavers.count_events(&case);
             self.secure.count(&case);
+            self.steps.count(&case);
         }
         let seed = self.seed;
         let entry = self.groups.entry(group.to_string()).or_insert_with(|| Group::new(group));
@@ -161,6 +165,7 @@ impl Judge {
                 self.faults.seen(),
                 self.leavers.seen(),
                 self.secure.seen(),
+                self.steps.seen(),
                 self.openings.seen(),
                 self.files.seen(),
                 self.events,

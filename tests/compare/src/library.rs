@@ -61,9 +61,10 @@ pub fn laid_out(raw: &RawInstance) -> Monitor {
         policy: raw.policy,
         actions: raw.actions.map(|action| Action { user: action.user as u32, met: action.met }),
         workflow,
-        words: raw.length as u16,
+        words: raw.length as u8,
         taken: raw.count as u8,
         closed: raw.closed,
+        status: raw.letter,
         state: raw.state as u32,
     };
     Monitor { configuration, instance }

@@ -20,6 +20,7 @@ mod library;
 mod refusals;
 mod report;
 mod secure;
+mod statuses;
 
 use std::process::ExitCode;
 

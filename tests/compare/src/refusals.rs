@@ -1,5 +1,6 @@
 //! Why permissions and workflows were refused with 19, monitors with 15 for what they hold of them, and
-//! files with 14 for their pairs (02, E4). Each reason is one that alone decides.
+//! files with 14 for their pairs (02, E4), and monitors with 15 for their letter (02, E6). Each reason is
+//! one that alone decides.
 
 use reference::casefile::Case;
 use reference::raw::RawInstance;
@@ -175,7 +176,7 @@ impl Openings {
 /// A reason for 15: its name, whether an instance may have it, and what takes it away.
 type Fault = (&'static str, fn(&RawInstance) -> bool, fn(&mut RawInstance));
 
-/// All of them; each must occur, and be the only one.
+/// Those of permissions and workflow; each must occur, and be the only one.
 const FAULTS: [Fault; 16] = [
     ("state not declared", |raw| raw.states != 0, |raw| raw.state = 0),
     ("state above 255", |raw| raw.states != 0 && raw.state > 255, |raw| raw.state = 0),
@@ -243,6 +244,51 @@ const FAULTS: [Fault; 16] = [
     ("number of transitions, no workflow", |raw| raw.states == 0, |raw| raw.arrows = 0),
 ];
 
+/// Those of the letter of the status; each must occur, and be the only one. Where nothing is taken, the
+/// letter of an open instance has to be `o`.
+const LETTERS: [Fault; 17] = [
+    ("letter 0", |raw| raw.letter == 0, set_letter),
+    ("letter 1", |raw| raw.letter == 1, set_letter),
+    ("letter 255", |raw| raw.letter == 255, set_letter),
+    ("letter O", |raw| raw.letter == b'O', set_letter),
+    ("letter C", |raw| raw.letter == b'C', set_letter),
+    ("letter D", |raw| raw.letter == b'D', set_letter),
+    ("another small letter", |raw| is_other_letter(raw.letter), set_letter),
+    (
+        "none of the letters, closed",
+        |raw| raw.closed != 0 && is_other_letter(raw.letter),
+        set_letter,
+    ),
+    ("d without the mark", |raw| is_open(raw, b'd') && raw.count > 0, set_letter),
+    ("d without the mark, no action", |raw| is_open(raw, b'd') && raw.count == 0, set_letter),
+    ("c without an action", |raw| is_open(raw, b'c') && raw.count == 0, set_letter),
+    ("mark 1 with o", |raw| (raw.closed, raw.letter) == (1, b'o'), set_letter),
+    ("mark 1 with c", |raw| (raw.closed, raw.letter) == (1, b'c'), set_letter),
+    ("another mark with o", |raw| raw.closed > 1 && raw.letter == b'o', set_letter),
+    ("another mark with c", |raw| raw.closed > 1 && raw.letter == b'c', set_letter),
+    ("the mark with o, no action", |raw| has_mark_alone(raw, b'o'), set_letter),
+    ("the mark with c, no action", |raw| has_mark_alone(raw, b'c'), set_letter),
+];
+
+/// Gives an instance a letter that its mark allows, whatever is taken.
+fn set_letter(raw: &mut RawInstance) {
+    raw.letter = if raw.closed == 0 { b'o' } else { b'd' };
+}
+
+fn is_other_letter(letter: u8) -> bool {
+    letter.is_ascii_lowercase() && !b"ocd".contains(&letter)
+}
+
+/// Whether an instance without the mark has this letter.
+fn is_open(raw: &RawInstance, letter: u8) -> bool {
+    raw.closed == 0 && raw.letter == letter
+}
+
+/// Whether an instance with the mark and with no action has this letter.
+fn has_mark_alone(raw: &RawInstance, letter: u8) -> bool {
+    raw.closed != 0 && raw.count == 0 && raw.letter == letter
+}
+
 /// The transitions in use.
 fn used(raw: &mut RawInstance) -> impl Iterator<Item = &mut Transition> {
     let count = usize::from(raw.arrows).min(raw.transitions.len());
@@ -263,7 +309,7 @@ pub struct Instances {
 impl Instances {
     /// None yet; each must occur.
     pub fn new(name: &str) -> Instances {
-        let wanted = FAULTS.iter().map(|(name, _, _)| *name);
+        let wanted = FAULTS.iter().chain(&LETTERS).map(|(name, _, _)| *name);
         Instances { seen: Seen::kinds(&format!("15 in {name}"), wanted) }
     }
 
@@ -272,7 +318,7 @@ impl Instances {
         if raw.monitor().is_ok() {
             return;
         }
-        for (name, applies, mend) in FAULTS {
+        for (name, applies, mend) in FAULTS.iter().chain(&LETTERS) {
             let mut mended = *raw;
             mend(&mut mended);
             if applies(raw) && mended.monitor().is_ok() {

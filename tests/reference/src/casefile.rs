@@ -193,7 +193,7 @@ pub fn run(case: &Case) -> Result<Report, Code> {
         if code == code::ACCEPTED && word >> 24 == 1 {
             report.taken += 1;
         }
-        report.answers.push((code, monitor.letter()));
+        report.answers.push((code, monitor.status()));
     }
     assert_eq!(report.taken, monitor.taken().len(), "each action answered 0 is kept");
     Ok(report)

@@ -47,6 +47,8 @@ fn mask_of(trials: &[Code]) -> u16 {
 #[cfg(test)]
 mod tests {
     use super::*;
+    use std::collections::BTreeSet;
+
     use crate::examples::{action, grant, revoke, CLOSE};
     use crate::generate::{instances, Random};
     use crate::monitor::Taken;
@@ -87,14 +89,20 @@ mod tests {
     #[test]
     fn without_permissions_the_number_of_the_action_plays_no_part() {
         let mut random = Random::new(21);
-        for _ in 0..40 {
+        let mut masks = BTreeSet::new();
+        for _ in 0..80 {
             let raw = instances::well_formed(&mut random, 9, 4);
             let monitor = raw.monitor().expect("it is well formed");
+            if monitor.secure().is_some() {
+                continue;
+            }
             let mask = monitor.mask(0);
             for number in [1, 63, 64, 255] {
                 assert_eq!(monitor.mask(number), mask, "{raw:?}");
             }
+            masks.insert(mask);
         }
+        assert!(masks.len() > 3, "{masks:?}");
     }
 
     #[test]

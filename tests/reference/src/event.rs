@@ -30,6 +30,11 @@ pub enum Event {
     Close,
 }
 
+/// Whether a word is of the kind of a close, in layout or not: such words ask for no workspace.
+pub fn is_of_close_kind(word: u32) -> bool {
+    word.to_le_bytes()[3] == 4
+}
+
 /// Reads an event word.
 ///
 /// # Errors
@@ -51,6 +56,14 @@ pub fn read_event(users: usize, roles: usize, word: u32) -> Result<Event, Code> 
 mod tests {
     use super::*;
     use crate::examples::CLOSE;
+
+    #[test]
+    fn kind_4_is_that_of_a_close() {
+        assert!([CLOSE, CLOSE | 1, CLOSE | 0xffffff].into_iter().all(is_of_close_kind));
+        for word in [0, 4, 0x040000, 0x03ffffff, 0x05000000, 0x14000000, 0x84000000, u32::MAX] {
+            assert!(!is_of_close_kind(word), "{word:08x}");
+        }
+    }
 
     #[test]
     fn event_words_are_read() {

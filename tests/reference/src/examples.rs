@@ -178,7 +178,7 @@ fn dead_end_is_taken() -> bool {
     let Ok(mut monitor) = opened else {
         return false;
     };
-    let taken = monitor.step(action(0)).code == 0 && monitor.letter() == 'o';
+    let taken = monitor.step(action(0)).code == 0 && monitor.status() == 'o';
     taken && (0..3).all(|user| monitor.step(action(user)).code == 9)
 }
 
@@ -282,7 +282,8 @@ mod tests {
             let rows = monitor.raw().user_roles;
             let mut taken = monitor.taken().to_vec();
             taken.iter_mut().for_each(|action| action.held = ones(rows[action.user]));
-            monitor = monitor.at(taken, 0, false);
+            let letter = monitor.status();
+            monitor = monitor.at(taken, 0, letter);
             numbers.push(monitor.step(*word).code);
         }
         numbers

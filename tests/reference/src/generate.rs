@@ -6,6 +6,7 @@
 //! - [`secure`]: permissions and workflows, and cases that run under them;
 //! - [`faults`]: policies with faults at known places;
 //! - [`instances`]: raw instances, well formed and malformed in each way that number 15 lists;
+//! - [`statuses`]: letters of the status, words of kind 4, and runs in which the letter comes and goes;
 //! - [`calls`]: inputs for single calls, with outputs and workspaces of every length.
 
 pub mod calls;
@@ -15,6 +16,7 @@ pub mod faults;
 pub mod instances;
 pub mod random;
 pub mod secure;
+pub mod statuses;
 pub mod terms;
 
 pub use random::Random;

@@ -1,5 +1,5 @@
-//! A monitor and its rules (01, "Sheets and events" and "Satisfied and possible"; 02, E4): the order
-//! of refusals, what an event alters, the status.
+//! A monitor and its rules (01, "Sheets and events" and "Satisfied and possible"; 02, E4 and E6): the
+//! order of refusals, what an event alters, the status that is kept.
 //!
 //! The rules are said once, over either way to keep a taken action: with the roles that its user
 //! held at the time ([`Taken`]), or with the bits noted for it ([`crate::raw::RawAction`]).
@@ -85,14 +85,14 @@ struct Configuration {
 }
 
 /// One run under a policy and, if they are given, permissions and a workflow: what was taken, the
-/// workflow's present state, and whether it is closed.
+/// workflow's present state, and the letter of the status, which is `d` exactly when it is closed.
 #[derive(Clone, Debug)]
 struct Instance<A> {
     policy: Term,
     secure: Option<Secure>,
     state: u8,
     taken: Vec<A>,
-    closed: bool,
+    letter: char,
     search: Search<A>,
 }
 
@@ -118,7 +118,7 @@ impl<A: Kept> Instance<A> {
     }
 
     /// An action: taken when a role gives it, a transition has it, and all actions with it are
-    /// possible. Then alone the state moves.
+    /// possible. Then alone the state moves, and the letter is worked out anew.
     fn act(&mut self, user: usize, action: u8, held: &BTreeSet<usize>) -> Outcome<A> {
         let next = match self.next(held, action) {
             Ok(next) => next,
@@ -132,21 +132,24 @@ impl<A: Kept> Instance<A> {
         if !self.search.possible(&tried) {
             return Outcome::judged(code::NOT_POSSIBLE, tried);
         }
+        self.letter = if self.search.satisfied(&tried) { 'c' } else { 'o' };
         self.taken = tried.clone();
         self.state = next;
         Outcome::judged(code::ACCEPTED, tried)
     }
 
-    /// A close: accepted when all taken actions satisfy the policy and the workflow may end.
+    /// A close: accepted when the letter is `c` and the workflow may end. It judges nothing.
     fn close(&mut self) -> Outcome<A> {
-        self.closed = self.search.satisfied(&self.taken) && self.is_final();
-        let code = if self.closed { code::ACCEPTED } else { code::NOT_SATISFIED };
-        Outcome::judged(code, self.taken.clone())
+        if self.letter != 'c' || !self.is_final() {
+            return Outcome::unjudged(code::NOT_SATISFIED);
+        }
+        self.letter = 'd';
+        Outcome::unjudged(code::ACCEPTED)
     }
 }
 
 impl<A: Kept> Monitor<A> {
-    /// Opens a monitor with neither permissions nor a workflow: no action, not closed.
+    /// Opens a monitor with neither permissions nor a workflow: no action, status `o`.
     ///
     /// # Errors
     /// 5, 1, 2, 3, 4, 6, looked for in that order.
@@ -160,7 +163,7 @@ impl<A: Kept> Monitor<A> {
     }
 
     /// Opens a monitor with permissions and a workflow, unless both are empty: no action, in state 0,
-    /// not closed.
+    /// status `o`.
     ///
     /// # Errors
     /// 5, 1, 2, 3, 4, 6, 19, looked for in that order.
@@ -180,22 +183,23 @@ impl<A: Kept> Monitor<A> {
         let search = Search::new(&policy);
         Ok(Monitor {
             configuration: Configuration { users, roles, user_roles },
-            instance: Instance { policy, secure, state: 0, taken: vec![], closed: false, search },
+            instance: Instance { policy, secure, state: 0, taken: vec![], letter: 'o', search },
         })
     }
 
-    /// The same monitor after these actions and in this state, open or closed, whatever run led there.
-    pub fn at(mut self, taken: Vec<A>, state: u8, closed: bool) -> Monitor<A> {
+    /// The same monitor after these actions, in this state and with this letter, whatever run led
+    /// there.
+    pub fn at(mut self, taken: Vec<A>, state: u8, letter: char) -> Monitor<A> {
         self.instance.taken = taken;
         self.instance.state = state;
-        self.instance.closed = closed;
+        self.instance.letter = letter;
         self
     }
 
     /// One event, without a workspace: 10, 7, then 16, 17, 8, 9 or 11.
     pub fn step(&mut self, word: u32) -> Outcome<A> {
         let Monitor { configuration: Configuration { users, roles, user_roles }, instance } = self;
-        if instance.closed {
+        if instance.letter == 'd' {
             return Outcome::unjudged(code::CLOSED);
         }
         match read_event(*users, *roles, word) {
@@ -210,19 +214,37 @@ impl<A: Kept> Monitor<A> {
         Outcome::unjudged(code::ACCEPTED)
     }
 
-    /// The status without a workspace: `d` closed, else `c` if the taken actions satisfy, else `o`.
-    pub fn letter(&mut self) -> char {
-        let Instance { closed, search, taken, .. } = &mut self.instance;
+    /// The status: the letter that is kept, whatever the taken actions say.
+    pub fn status(&self) -> char {
+        self.instance.letter
+    }
+
+    /// The letter that 01 defines for the taken actions: `d` closed, else `c` if they satisfy, else
+    /// `o`. On a monitor that was opened and sent events it is the one that is kept.
+    pub fn defined(&self) -> char {
+        let Instance { policy, taken, letter, .. } = &self.instance;
         match () {
-            () if *closed => 'd',
-            () if search.satisfied(taken) => 'c',
+            () if *letter == 'd' => 'd',
+            () if Search::new(policy).satisfied(taken) => 'c',
             () => 'o',
         }
     }
 
-    /// One event with its workspace: 12 first, then as [`Monitor::step`].
+    /// The letter that a monitor would keep which judges old actions by today's roles, 01's first
+    /// mistake.
+    pub fn by_todays_roles(&self) -> char {
+        let Monitor { configuration, instance } = self;
+        let today = |action: &A| {
+            let held = &configuration.user_roles[action.user()];
+            A::taken(&instance.policy, action.user(), held)
+        };
+        let taken = instance.taken.iter().map(today).collect();
+        self.clone().at(taken, instance.state, instance.letter).defined()
+    }
+
+    /// One event with its workspace: 12 first, but for words of kind 4, then as [`Monitor::step`].
     pub fn event(&mut self, word: u32, workspace: &mut [u32]) -> Code {
-        if let Err(refusal) = workspace::check(workspace) {
+        if let Err(refusal) = workspace::check_for(word, workspace) {
             return refusal;
         }
         let outcome = self.step(word);
@@ -230,16 +252,6 @@ impl<A: Kept> Monitor<A> {
             workspace::fill(&mut self.instance.search, &actions, workspace);
         }
         outcome.code
-    }
-
-    /// The status with its workspace, which then speaks of the taken actions.
-    ///
-    /// # Errors
-    /// 12 if the workspace is too short.
-    pub fn status(&mut self, workspace: &mut [u32]) -> Result<char, Code> {
-        workspace::check(workspace)?;
-        workspace::fill(&mut self.instance.search, &self.instance.taken, workspace);
-        Ok(self.letter())
     }
 
     /// The actions taken so far, in order of arrival.
@@ -287,7 +299,8 @@ impl<A: Kept> Monitor<A> {
             place.user = action.user();
             place.met = action.bits(&instance.policy);
         }
-        raw.closed = u8::from(instance.closed);
+        raw.closed = u8::from(instance.letter == 'd');
+        raw.letter = instance.letter as u8;
         instance.secure.iter().for_each(|secure| raw.keep_secure(secure));
         raw.state = instance.state.into();
         raw
@@ -298,7 +311,8 @@ impl<A: Kept> Monitor<A> {
 mod tests {
     use super::*;
     use crate::examples::{action, grant, numbered, revoke, CLOSE};
-    use crate::workspace::{expected, POSSIBLE, WORDS};
+    use crate::policy::Operator;
+    use crate::workspace::{expected, WORDS};
 
     const PLUS_EVERYONE: [u32; 2] = [0x05000000, 0x01000000];
 
@@ -335,7 +349,7 @@ mod tests {
         assert_eq!(monitor.step(grant(2, 0)).code, 0);
         assert_eq!(monitor.step(CLOSE).code, 0);
         assert_eq!(monitor.step(action(1)).code, 10, "10 before 8");
-        assert_eq!((monitor.taken().len(), monitor.letter()), (12, 'd'));
+        assert_eq!((monitor.taken().len(), monitor.status()), (12, 'd'));
     }
 
     #[test]
@@ -375,17 +389,80 @@ mod tests {
         let policy = monitor.policy().clone();
         let without_role = Taken { user: 2, held: BTreeSet::new() };
         let with_role = Taken { user: 0, held: BTreeSet::from([0]) };
-        assert_eq!(monitor.event(CLOSE, &mut workspace), 11);
-        assert_eq!((workspace[0], workspace[POSSIBLE]), (0, 3));
         assert_eq!(monitor.event(action(2), &mut workspace), 9);
         assert_eq!(workspace[..WORDS], expected(&policy, &[without_role]));
         assert_eq!(monitor.event(action(0), &mut workspace), 0);
-        assert_eq!(workspace[..WORDS], expected(&policy, std::slice::from_ref(&with_role)));
-        assert_eq!(monitor.event(CLOSE, &mut workspace), 0);
-        workspace[..WORDS].fill(0);
-        assert_eq!(monitor.status(&mut workspace), Ok('d'));
         assert_eq!(workspace[..WORDS], expected(&policy, &[with_role]));
         assert_eq!(workspace[WORDS..], marked[WORDS..]);
+    }
+
+    #[test]
+    fn a_close_leaves_a_workspace_of_any_length() {
+        for length in [0, 1, WORDS - 1, WORDS, WORDS + 2] {
+            let mut monitor = plus_everyone();
+            let mut workspace = vec![7; length];
+            assert_eq!(monitor.event(CLOSE, &mut workspace), 11);
+            assert_eq!(monitor.event(CLOSE | 1, &mut workspace), 7);
+            assert_eq!(monitor.event(CLOSE | 1 << 23, &mut workspace), 7);
+            monitor.step(action(0));
+            assert_eq!(monitor.event(CLOSE, &mut workspace), 0);
+            assert_eq!(monitor.event(CLOSE, &mut workspace), 10);
+            assert_eq!(monitor.event(CLOSE | 1, &mut workspace), 10);
+            assert!(workspace.iter().all(|word| *word == 7));
+        }
+    }
+
+    /// One action of a user with role 0, or three actions of others with a role.
+    fn one_or_three() -> Monitor<Taken> {
+        let one = Term::Role(0);
+        let other = || Term::not(Term::Role(0));
+        let two = Term::join(Operator::Together, other(), other());
+        let three = Term::join(Operator::Together, Term::Everyone, two);
+        let words = Term::join(Operator::Either, one, three).words();
+        Monitor::open(3, 2, &words, &[1, 2, 2]).expect("it opens")
+    }
+
+    #[test]
+    fn the_letter_is_worked_out_anew_by_accepted_actions_alone() {
+        let mut monitor = one_or_three();
+        assert_eq!(monitor.status(), 'o');
+        let mut left = |word: u32| (monitor.step(word).code, monitor.status());
+        assert_eq!(left(CLOSE), (11, 'o'));
+        assert_eq!(left(action(0)), (0, 'c'));
+        assert_eq!(left(revoke(0, 0)), (0, 'c'), "what was noted stays");
+        assert_eq!(left(action(0)), (9, 'c'));
+        assert_eq!(left(action(3)), (7, 'c'));
+        assert_eq!(left(action(1)), (0, 'o'), "two are too many for one and too few for three");
+        assert_eq!(left(grant(0, 0)), (0, 'o'));
+        assert_eq!(left(CLOSE), (11, 'o'));
+        assert_eq!(left(action(2)), (0, 'c'));
+        assert_eq!(left(CLOSE), (0, 'd'));
+        assert_eq!(left(revoke(1, 1)), (10, 'd'));
+    }
+
+    #[test]
+    fn status_and_close_follow_the_letter() {
+        let taken = |users: &[usize]| -> Vec<Taken> {
+            users.iter().map(|user| Taken { user: *user, held: BTreeSet::from([*user]) }).collect()
+        };
+        for (users, defined) in [(&[0][..], 'c'), (&[1], 'o'), (&[0, 1, 1], 'c'), (&[0, 0], 'o')] {
+            for (letter, code) in [('c', 0), ('o', 11)] {
+                let mut monitor = one_or_three().at(taken(users), 0, letter);
+                assert_eq!((monitor.status(), monitor.defined()), (letter, defined));
+                assert_eq!(monitor.step(CLOSE), Outcome::unjudged(code));
+                assert_eq!(monitor.status(), if code == 0 { 'd' } else { letter });
+            }
+        }
+    }
+
+    #[test]
+    fn an_action_does_not_look_at_the_letter_before() {
+        for letter in ['c', 'o'] {
+            let taken = vec![Taken { user: 1, held: BTreeSet::from([1]) }];
+            let mut monitor = one_or_three().at(taken, 0, letter);
+            assert_eq!((monitor.step(action(2)).code, monitor.status()), (0, 'o'));
+            assert_eq!((monitor.step(action(0)).code, monitor.status()), (0, 'c'));
+        }
     }
 
     /// One action of role 0 and one of role 1 by another user; both roles give actions 1 and 2, which
@@ -428,8 +505,8 @@ mod tests {
         monitor.step(numbered(0, 1));
         let taken = [monitor.taken(), &[Taken { user: 1, held: BTreeSet::from([1]) }]].concat();
         for (state, code) in [(1, 11), (2, 0)] {
-            let mut monitor = monitor.clone().at(taken.clone(), state, false);
-            assert_eq!((monitor.letter(), monitor.step(CLOSE).code), ('c', code));
+            let mut monitor = monitor.clone().at(taken.clone(), state, 'c');
+            assert_eq!((monitor.defined(), monitor.step(CLOSE).code), ('c', code));
         }
     }
 
@@ -437,9 +514,9 @@ mod tests {
     fn a_short_workspace_is_12_first() {
         let mut monitor = plus_everyone();
         let mut short = vec![3; WORDS - 1];
-        assert_eq!(monitor.event(0, &mut short), 12);
-        assert_eq!(monitor.event(action(0), &mut short), 12);
-        assert_eq!(monitor.status(&mut short), Err(12));
+        for word in [0, action(0), action(3), grant(0, 1), revoke(0, 0), 5 << 24, u32::MAX] {
+            assert_eq!(monitor.event(word, &mut short), 12, "{word:08x}");
+        }
         assert_eq!(monitor.taken().len(), 0);
         assert!(short.iter().all(|word| *word == 3));
     }

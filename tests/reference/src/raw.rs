@@ -1,6 +1,7 @@
 //! Instances given as raw data with noted bits, and which of them are malformed (number 15).
 //! One that is not is a monitor like any other, and [`Monitor`] has its rules; what an action met
-//! goes by the bits as they are (01's table, "the first row that fits decides").
+//! goes by the bits as they are (01's table, "the first row that fits decides"), and the status by the
+//! letter as it is (02, E6).
 
 use std::collections::BTreeSet;
 
@@ -14,8 +15,9 @@ use crate::workspace;
 /// How many bits the compared program's struct has for the numbers of users and roles, for the user of
 /// an action and for the present state. Here every number has room; inputs keep to what can be lent.
 pub const WIDE_BITS: usize = 32;
-/// How many bits it has for the number of words.
-pub const WORD_BITS: usize = 16;
+/// How many bits it has for the numbers of words, of actions, of states and of transitions, for the
+/// mark and for the letter.
+pub const NARROW_BITS: usize = 8;
 /// The marks of a closed instance that may be lent to it.
 pub const CLOSED_MARKS: [u8; 4] = [1, 2, 128, 255];
 
@@ -72,6 +74,8 @@ pub struct RawInstance {
     pub actions: [RawAction; MOST_ACTIONS],
     /// Whether the instance is closed: 0 is open, every other value closed.
     pub closed: u8,
+    /// The letter of the status.
+    pub letter: u8,
     /// The actions that each role gives, bit a for action a; rows past the roles are to be zero.
     pub permissions: [u64; MOST_ROLES],
     /// The number of states; 0 where neither permissions nor a workflow are given, and then all of
@@ -98,6 +102,7 @@ impl RawInstance {
         count: 0,
         actions: [RawAction::BLANK; MOST_ACTIONS],
         closed: 0,
+        letter: 0,
         permissions: [0; MOST_ROLES],
         states: 0,
         final_states: 0,
@@ -133,16 +138,18 @@ impl RawInstance {
     /// The monitor that this is, whose rules are then those of every other.
     ///
     /// # Errors
-    /// 15 if it is malformed: exactly the list of 01 and 02's E4.
+    /// 15 if it is malformed: exactly the list of 01 and 02's E4 and E6.
     pub fn monitor(&self) -> Result<Monitor<RawAction>, Code> {
         let monitor = self.opened().ok_or(code::INSTANCE_MALFORMED)?;
         let well_formed = self.count <= MOST_ACTIONS
             && self.users_are_declared()
             && self.bits_are_at(monitor.policy().unit_mask())
             && self.unused_is_zero()
-            && self.state_is_declared();
+            && self.state_is_declared()
+            && self.letter_fits();
+        let letter = char::from(self.letter);
         well_formed
-            .then(|| monitor.at(self.taken().to_vec(), self.state as u8, self.closed != 0))
+            .then(|| monitor.at(self.taken().to_vec(), self.state as u8, letter))
             .ok_or(code::INSTANCE_MALFORMED)
     }
 
@@ -194,6 +201,29 @@ impl RawInstance {
         self.is_bare() || self.state < self.states.into()
     }
 
+    /// Whether the letter is one that the mark and the number of actions allow.
+    fn letter_fits(&self) -> bool {
+        let allowed: &[u8] = match (self.closed, self.count) {
+            (0, 0) => b"o",
+            (0, _) => b"oc",
+            _ => b"d",
+        };
+        allowed.contains(&self.letter)
+    }
+
+    /// The same with this letter.
+    pub fn with_letter(&self, letter: u8) -> RawInstance {
+        RawInstance { letter, ..*self }
+    }
+
+    /// The same with the letter that 01 defines for its mark and its actions; one that is malformed
+    /// for another reason stays as it is.
+    pub fn with_defined_letter(&self) -> RawInstance {
+        let plain = self.with_letter(if self.closed == 0 { b'o' } else { b'd' });
+        let defined = plain.monitor().map(|monitor| monitor.defined());
+        self.with_letter(defined.map_or(self.letter, |letter| letter as u8))
+    }
+
     /// The taken actions.
     fn taken(&self) -> &[RawAction] {
         &self.actions[..self.count]
@@ -236,26 +266,18 @@ impl RawInstance {
         outcome
     }
 
-    /// The status without a workspace.
+    /// The status.
     ///
     /// # Errors
     /// 15 if the instance is malformed.
-    pub fn letter(&self) -> Result<char, Code> {
-        Ok(self.monitor()?.letter())
+    pub fn status(&self) -> Result<char, Code> {
+        Ok(self.monitor()?.status())
     }
 
-    /// The monitor for a call that is lent a workspace.
-    ///
-    /// # Errors
-    /// 12, then 15.
-    fn admitted(&self, workspace: &[u32]) -> Result<Monitor<RawAction>, Code> {
-        workspace::check(workspace)?;
-        self.monitor()
-    }
-
-    /// One event with its workspace: 12, 15, then as [`Monitor::step`].
+    /// One event with its workspace: 12, but for words of kind 4, then 15, then as [`Monitor::step`].
     pub fn event(&mut self, word: u32, workspace: &mut [u32]) -> Code {
-        let mut monitor = match self.admitted(workspace) {
+        let admitted = workspace::check_for(word, workspace).and_then(|()| self.monitor());
+        let mut monitor = match admitted {
             Ok(monitor) => monitor,
             Err(refusal) => return refusal,
         };
@@ -264,20 +286,13 @@ impl RawInstance {
         code
     }
 
-    /// The status with its workspace, which then speaks of the taken actions.
-    ///
-    /// # Errors
-    /// 12, then 15.
-    pub fn status(&self, workspace: &mut [u32]) -> Result<char, Code> {
-        self.admitted(workspace)?.status(workspace)
-    }
-
     /// Who may act, with its workspace, as [`Monitor::enabled`].
     ///
     /// # Errors
     /// 12, then 15.
     pub fn enabled(&self, action: u8, workspace: &mut [u32]) -> Result<u16, Code> {
-        self.admitted(workspace)?.enabled(action, workspace)
+        workspace::check(workspace)?;
+        self.monitor()?.enabled(action, workspace)
     }
 }
 
@@ -299,7 +314,8 @@ mod tests {
                 for word in [action(0), CLOSE, 0] {
                     assert_eq!(after.event(word, &mut workspace), 15, "{name}");
                 }
-                assert_eq!(after.status(&mut workspace), Err(15));
+                assert_eq!(after.event(CLOSE, &mut []), 15, "{name}");
+                assert_eq!(after.status(), Err(15));
                 assert_eq!(after.enabled(1, &mut workspace), Err(15));
                 assert_eq!(after, raw);
                 assert!(workspace.iter().all(|word| *word == 6));
@@ -322,10 +338,51 @@ mod tests {
     #[test]
     fn a_short_workspace_comes_before_15() {
         let mut raw = RawInstance::BLANK;
-        assert_eq!(raw.event(CLOSE, &mut vec![0; WORDS - 1]), 12);
-        assert_eq!(raw.status(&mut vec![0; WORDS - 1]), Err(12));
+        assert_eq!(raw.event(action(0), &mut vec![0; WORDS - 1]), 12);
+        assert_eq!(raw.event(0, &mut vec![0; WORDS - 1]), 12);
         assert_eq!(raw.enabled(1, &mut vec![0; WORDS - 1]), Err(12));
-        assert_eq!(raw.event(CLOSE, &mut vec![0; WORDS]), 15);
+        assert_eq!(raw.event(action(0), &mut vec![0; WORDS]), 15);
+        assert_eq!(raw.event(CLOSE, &mut vec![0; WORDS - 1]), 15);
+        assert_eq!(raw.event(CLOSE | 1, &mut []), 15);
+    }
+
+    /// A letter with a mark and a number of actions, as 02 lists what is wrong with them.
+    fn letter_is_wrong(letter: u8, closed: bool, actions: usize) -> bool {
+        let none_of_three = !['o', 'c', 'd'].contains(&char::from(letter));
+        let closed_alone = (letter == b'd') != closed;
+        let early = letter != b'o' && !closed && actions == 0;
+        none_of_three || closed_alone || early
+    }
+
+    #[test]
+    fn letters_fit_the_mark_and_the_actions() {
+        let (_, opened) = RawInstance::open(1, 1, &[0x05000000, 0x01000000], &[1]);
+        assert_eq!((opened.closed, opened.letter), (0, b'o'));
+        for (letter, closed) in (0..=u8::MAX).flat_map(|letter| [0, 1, 2, 255].map(|m| (letter, m)))
+        {
+            for count in [0, 1, 12] {
+                let raw = RawInstance { letter, closed, count, ..opened };
+                let wrong = letter_is_wrong(letter, closed != 0, count);
+                let expected = if wrong { Err(15) } else { Ok(char::from(letter)) };
+                assert_eq!(raw.status(), expected, "{letter} {closed} {count}");
+            }
+        }
+    }
+
+    #[test]
+    fn the_defined_letter_is_that_of_the_actions() {
+        let (_, mut raw) = RawInstance::open(1, 1, &[0x01000000], &[1]);
+        let letters = |raw: RawInstance| {
+            let closed = RawInstance { closed: 7, ..raw };
+            [raw, closed].map(|raw| char::from(raw.with_defined_letter().letter))
+        };
+        assert_eq!(letters(raw), ['o', 'd']);
+        raw.count = 1;
+        assert_eq!(letters(raw), ['o', 'd']);
+        raw.actions[0].met = 1;
+        assert_eq!(letters(raw), ['c', 'd']);
+        let malformed = RawInstance { roles: 0, letter: 9, ..raw };
+        assert_eq!(malformed.with_defined_letter(), malformed);
     }
 
     #[test]
@@ -345,19 +402,20 @@ mod tests {
         assert_eq!(raw.step(grant(0, 0)).code, 0);
         assert_eq!(raw.step(action(0)).code, 0);
         assert_eq!(raw.actions[1], RawAction { user: 0, met: 0b110 });
-        assert_eq!(raw.letter(), Ok('c'));
+        assert_eq!(raw.status(), Ok('c'));
         raw.actions[0].met = 0;
-        assert_eq!(raw.letter(), Ok('o'));
-        assert_eq!(raw.step(CLOSE).code, 11);
+        assert_eq!(raw.status(), Ok('c'), "the letter is followed");
+        assert_eq!(raw.with_defined_letter().step(CLOSE).code, 11);
+        assert_eq!((raw.step(CLOSE).code, raw.closed, raw.letter), (0, 1, b'd'));
     }
 
     #[test]
     fn a_closed_instance_that_does_not_satisfy_is_closed() {
         let (_, mut raw) = RawInstance::open(1, 1, &[0x01000000], &[1]);
         for mark in 1..=u8::MAX {
-            raw.closed = mark;
+            (raw.closed, raw.letter) = (mark, b'd');
             let before = raw;
-            assert_eq!(raw.letter(), Ok('d'));
+            assert_eq!(raw.status(), Ok('d'));
             assert_eq!(raw.step(action(0)).code, 10);
             assert_eq!(raw, before);
         }

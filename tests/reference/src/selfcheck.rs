@@ -1,12 +1,14 @@
-//! The search held against the literal definitions on small random cases, and 01's examples.
+//! The search held against the literal definitions on small random cases, the letters kept along longer
+//! runs against 01's definition, and 01's examples.
 
 use std::collections::{BTreeMap, BTreeSet};
 
+use crate::casefile::Case;
 use crate::code::{self, Code};
-use crate::event::Event;
+use crate::event::{is_of_close_kind, Event};
 use crate::examples;
 use crate::generate::terms::{self, Style};
-use crate::generate::{cases, secure, Random};
+use crate::generate::{cases, secure, statuses, Random};
 use crate::literal::{self, Assignment, Process, Reading, Transitions};
 use crate::monitor::{Kept, Monitor, Taken};
 use crate::multiset::{multiset, open_multiset};
@@ -149,8 +151,43 @@ pub fn selfcheck(seed: u64, count: usize) -> Tally {
         check_equal_form(&mut tally, &small, &mut random);
         check_workspace(&mut tally, &small);
         check_secure(&mut tally, &small, &mut random);
+        check_kept(&mut tally, &mut random);
     }
     tally
+}
+
+/// A run of any length, with a workflow or without.
+fn long_case(random: &mut Random) -> Case {
+    match random.below(4) {
+        0 => cases::rich_case(random),
+        1 => cases::leavers_case(random),
+        2 => secure::case(random),
+        _ => statuses::case(random),
+    }
+}
+
+/// The letter that a monitor keeps from its opening on against 01's definition, by a search that has
+/// tried nothing yet, and by what it wants of a close. Only an accepted action or close may alter it.
+fn check_kept(tally: &mut Tally, random: &mut Random) {
+    let case = long_case(random);
+    let mut monitor: Monitor<Taken> = case.open().expect("a random case opens");
+    let mut raw = monitor.raw();
+    tally.check("an opened monitor is open", monitor.status() == 'o', &case);
+    for word in &case.events {
+        let before = monitor.status();
+        let accepted = monitor.step(*word).code == code::ACCEPTED;
+        let kept = monitor.status();
+        let (acts, closes) = (word >> 24 == 1, is_of_close_kind(*word));
+        let stays = kept == before || accepted && (acts || closes);
+        tally.check("the letter is kept", stays, &case);
+        tally.check("the letter is as defined", kept == monitor.defined(), &case);
+        let by_letter = !(accepted && closes) || (before, kept) == ('c', 'd');
+        tally.check("an accepted close leads from c to d", by_letter, &case);
+        raw.step(*word);
+        tally.check("the letter by bits is the same", raw == monitor.raw(), &case);
+        let today = kept == monitor.by_todays_roles();
+        tally.cover("letters as today's roles say", "letters against today's roles", today);
+    }
 }
 
 /// The numbers that actions have under a small workflow.
@@ -248,7 +285,7 @@ fn check_equal_secure(
     let words: Vec<u32> = words.map(|event| as_word(renumbered(*event, action))).collect();
     let answers = |term: &Term| {
         let mut monitor = workflow.open(&Small { term: term.clone(), ..small.clone() });
-        let answer = |word: &u32| (monitor.step(*word).code, monitor.letter(), monitor.state());
+        let answer = |word: &u32| (monitor.step(*word).code, monitor.status(), monitor.state());
         words.iter().map(answer).collect::<Vec<_>>()
     };
     let same =
@@ -307,11 +344,11 @@ fn check_run(tally: &mut Tally, small: &Small) {
         tally.check("the bits and the roles agree", by_bits == code && raw == monitor.raw(), small);
         let by_bits = raw.monitor().map(|monitor| monitor.mask(0));
         tally.check("the mask by bits is the same", by_bits == Ok(mask), small);
-        check_letter(tally, small, &mut monitor, &trace);
+        check_letter(tally, small, &monitor, &trace);
     }
     check_mask(tally, small, &states, mask);
     check_close(tally, small, &mut monitor, &states, &trace);
-    let mask = if monitor.letter() == 'd' { 0 } else { mask };
+    let mask = if monitor.status() == 'd' { 0 } else { mask };
     tally.check("the mask after a close", monitor.mask(0) == mask, small);
 }
 
@@ -335,13 +372,13 @@ fn check_mask(tally: &mut Tally, small: &Small, states: &BTreeSet<Process>, mask
 fn check_letter(
     tally: &mut Tally,
     small: &Small,
-    monitor: &mut Monitor<Taken>,
+    monitor: &Monitor<Taken>,
     trace: &[literal::Event],
 ) {
     let satisfied = literal::trace_satisfies(trace, small.users, &small.assignment(), &small.term);
     let letter = if satisfied { 'c' } else { 'o' };
-    tally.check("the status follows Definition 6", monitor.letter() == letter, small);
-    let by_bits = monitor.raw().letter();
+    tally.check("the status follows Definition 6", monitor.status() == letter, small);
+    let by_bits = monitor.raw().status();
     tally.check("the status by bits follows Definition 6", by_bits == Ok(letter), small);
 }
 
@@ -361,7 +398,7 @@ fn check_close(
     tally.check("a close follows Definition 7", code == expected, small);
     tally.cover("closes taken", "closes refused", done);
     let letter = if done { 'd' } else { 'o' };
-    tally.check("the status after a close", monitor.letter() == letter, small);
+    tally.check("the status after a close", monitor.status() == letter, small);
 }
 
 /// The actions of a whole trace, each with the roles held at the time, none refused.
@@ -451,7 +488,7 @@ fn check_equal_form(tally: &mut Tally, small: &Small, random: &mut Random) {
         let mut monitor = Small { term: term.clone(), ..small.clone() }.open();
         let word_answers = small.events.iter().chain(&[Event::Close]).map(|event| {
             let code = monitor.step(as_word(*event)).code;
-            (code, monitor.letter())
+            (code, monitor.status())
         });
         word_answers.collect::<Vec<_>>()
     };

@@ -1,6 +1,7 @@
-//! What the workspace holds (01, "The work room").
+//! What the workspace holds (01, "The work room"), and which calls ask for it (02, E6).
 
 use crate::code::{self, Code};
+use crate::event::is_of_close_kind;
 use crate::policy::Term;
 use crate::search::{Acted, Question, Search};
 
@@ -9,12 +10,24 @@ pub const WORDS: usize = 8192;
 /// Where the facts about "possible" begin.
 pub const POSSIBLE: usize = 4096;
 
-/// What every call that is lent a workspace looks at first.
+/// What every call that fills a workspace looks at first.
 ///
 /// # Errors
 /// 12 if it has fewer than 8,192 words.
 pub fn check(workspace: &[u32]) -> Result<(), Code> {
     (workspace.len() >= WORDS).then_some(()).ok_or(code::WORKSPACE_SHORT)
+}
+
+/// What an event with this word looks at first; for words of kind 4 the workspace plays no part.
+///
+/// # Errors
+/// 12 if the word is of another kind and the workspace has fewer than 8,192 words.
+pub fn check_for(word: u32, workspace: &[u32]) -> Result<(), Code> {
+    if is_of_close_kind(word) {
+        Ok(())
+    } else {
+        check(workspace)
+    }
 }
 
 /// The 8,192 words for these actions: bit i of word s says whether the set with mask s satisfies

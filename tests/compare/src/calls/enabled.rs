@@ -79,7 +79,7 @@ pub fn compare(library: &Calls, seed: u64, count: usize) -> (Call, [Seen; 4]) {
     for (name, input) in enabled_edges(&mut random) {
         enabled.check(&name, &input);
     }
-    for (name, case) in edges::leavers().into_iter().chain(edges::secure::runs()) {
+    for (name, case) in edges::runs() {
         enabled.run(&name, &case);
     }
     for turn in 0..count {

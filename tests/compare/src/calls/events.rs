@@ -1,9 +1,11 @@
-//! Events and statuses (01: standings): on raw instances, well formed and not, and along whole runs.
+//! Events and statuses (01: standings): on raw instances, well formed and not, and along whole runs. A
+//! status is lent no workspace, and a close leaves the one that it is lent alone.
 
 use std::hint::black_box;
 
 use oskhrein::raw::{Calls, Monitor};
 use reference::casefile::{read_case, Case};
+use reference::event::is_of_close_kind;
 use reference::generate::calls::{event_edges, event_input, EventInput};
 use reference::generate::instances::flipped;
 use reference::generate::{cases, edges, Random};
@@ -16,8 +18,9 @@ use crate::leavers::Leavers;
 use crate::lent::Lent;
 use crate::library::laid_out;
 use crate::refusals::Instances;
-use crate::report::Seen;
+use crate::report::{answer_text, Seen};
 use crate::secure;
+use crate::statuses;
 
 /// Both calls, with the library that is asked.
 struct Events<'a> {
@@ -26,22 +29,29 @@ struct Events<'a> {
     status: Call,
     leavers: Leavers,
     secure: secure::Events,
+    steps: statuses::Steps,
+    calls: statuses::Calls,
     malformed: Instances,
 }
 
 /// Compares on all edges, on so many random instances, on as many with a bit flipped, and along
 /// runs.
-pub fn compare(library: &Calls, seed: u64, count: usize) -> ([Call; 2], [Seen; 3]) {
-    let event = Call::new("event", &[0, 7, 8, 9, 10, 11, 12, 15, 16, 17]);
-    let status = Call::new("status", &[12, 15, b'c', b'd', b'o']);
-    let leavers = Leavers::of_events("event", true);
-    let (secure, malformed) = (secure::Events::new("event", true), Instances::new("event"));
-    let mut events = Events { library, event, status, leavers, secure, malformed };
+pub fn compare(library: &Calls, seed: u64, count: usize) -> ([Call; 2], Vec<Seen>) {
+    let mut events = Events {
+        library,
+        event: Call::new("event", &[0, 7, 8, 9, 10, 11, 12, 15, 16, 17]),
+        status: Call::new("status", &[15, b'c', b'd', b'o']),
+        leavers: Leavers::of_events("event", true),
+        secure: secure::Events::new("event", true),
+        steps: statuses::Steps::new("event", true),
+        calls: statuses::Calls::new(),
+        malformed: Instances::new("event"),
+    };
     let mut random = Random::new(seed);
     for (name, input) in event_edges(&mut random) {
         events.check(&name, &input);
     }
-    for (name, case) in edges::leavers().into_iter().chain(edges::secure::runs()) {
+    for (name, case) in edges::runs() {
         events.run(&name, &case);
     }
     for turn in 0..count {
@@ -57,25 +67,38 @@ pub fn compare(library: &Calls, seed: u64, count: usize) -> ([Call; 2], [Seen; 3
             events.run(&format!("run {turn} of seed {seed}"), &case);
         }
     }
-    let kinds = [events.leavers.seen(), events.secure.seen(), events.malformed.seen()];
-    ([events.event, events.status], kinds)
+    let Events { event, status, leavers, secure, steps, calls, malformed, .. } = events;
+    let mut kinds = vec![leavers.seen(), secure.seen(), steps.seen()];
+    kinds.extend(calls.seen());
+    kinds.push(malformed.seen());
+    ([event, status], kinds)
+}
+
+/// The length of the workspace for the event at this place of a run: any one where it plays no part.
+fn length_for(word: u32, place: usize) -> usize {
+    if is_of_close_kind(word) {
+        [0, WORDS, WORDS - 1, WORDS + 8][place % 4]
+    } else {
+        WORDS
+    }
 }
 
 impl Events<'_> {
     /// One event on an instance, and its status.
     fn check(&mut self, label: &str, input: &EventInput) {
-        self.malformed.count(&input.instance);
-        let mut raw = input.instance;
-        let mut workspace = Lent::new(input.workspace);
-        let code = raw.event(input.word, workspace.words());
+        let EventInput { instance, word, workspace: length } = input;
+        self.malformed.count(instance);
+        let mut raw = *instance;
+        let mut workspace = Lent::new(*length);
+        let answer = raw.event(*word, workspace.words()) as u8;
+        self.calls.count_event(instance, *word, *length, answer);
         let after = laid_out(&raw);
-        let expected = Left { answer: code as u8, monitor: &after, workspace: &workspace };
-        let before = laid_out(&input.instance);
-        self.event(label, before, input.word, input.workspace, &expected);
-        let mut workspace = Lent::new(input.workspace);
-        let answer = byte(input.instance.status(workspace.words()).map(|letter| letter as u8));
-        let expected = Left { answer, monitor: &before, workspace: &workspace };
-        self.status(label, &before, input.workspace, &expected);
+        let expected = Left { answer, monitor: &after, workspace: &workspace };
+        let before = laid_out(instance);
+        self.event(label, before, *word, *length, &expected);
+        let answer = byte(instance.status().map(|letter| letter as u8));
+        self.calls.count_status(instance, answer);
+        self.status(label, &before, answer);
     }
 
     /// Asks the product for an event; the monitor that it leaves.
@@ -97,16 +120,16 @@ impl Events<'_> {
         monitor
     }
 
-    /// Asks the product for a status.
-    fn status(&mut self, label: &str, before: &Monitor, length: usize, expected: &Left) {
-        let (mut monitor, mut workspace) = (*before, Lent::new(length));
-        let answer = self.library.status(&monitor, workspace.words());
+    /// Asks the product for a status, which must be this and leave the monitor as it was.
+    fn status(&mut self, label: &str, before: &Monitor, expected: u8) {
+        let mut monitor = *before;
+        let answer = self.library.status(&monitor);
         // The call only reads the monitor; it is looked at anew, so that a write would be seen.
         black_box(&mut monitor);
-        let got = Left { answer, monitor: &monitor, workspace: &workspace };
-        self.status.check(answer, expected.same(&got), || {
-            let input = format!("workspace of {length}, of (hex) {before:x?}");
-            format!("{label}\n  {input}\n{}", expected.against(&got))
+        self.status.check(answer, answer == expected && monitor == *before, || {
+            let (expected, answer) = (answer_text(expected), answer_text(answer));
+            let left = if monitor == *before { "" } else { ", and another monitor" };
+            format!("{label}\n  of (hex) {before:x?}\n  expected {expected}, got {answer}{left}")
         });
     }
 
@@ -118,18 +141,18 @@ impl Events<'_> {
         };
         self.leavers.count_events(case);
         self.secure.count(case);
+        self.steps.count(case);
         let mut monitor = opened(self.library, case);
+        self.status(&format!("{label}, opened"), &monitor, grown.status() as u8);
         for (place, word) in case.events.iter().enumerate() {
             let label = format!("{label}, event {place} of (hex) {case:x?}");
-            let mut workspace = Lent::new(WORDS);
+            let length = length_for(*word, place);
+            let mut workspace = Lent::new(length);
             let answer = grown.event(*word, workspace.words()) as u8;
             let after = laid_out(&grown.raw());
             let expected = Left { answer, monitor: &after, workspace: &workspace };
-            monitor = self.event(&label, monitor, *word, WORDS, &expected);
-            let mut workspace = Lent::new(WORDS);
-            let answer = byte(grown.status(workspace.words()).map(|letter| letter as u8));
-            let expected = Left { answer, monitor: &after, workspace: &workspace };
-            self.status(&label, &monitor, WORDS, &expected);
+            monitor = self.event(&label, monitor, *word, length, &expected);
+            self.status(&label, &monitor, grown.status() as u8);
         }
     }
 }

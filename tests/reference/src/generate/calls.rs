@@ -5,9 +5,11 @@ use super::cases::{self, event, user_roles};
 use super::edges;
 use super::faults;
 use super::instances::{self, NamedInstance};
+use super::statuses::{self, close_word, lettered, CLOSE_WORDS, OTHER_WORDS};
 use super::terms::{self, Style};
 use super::Random;
 use crate::casefile::{read_case, Case};
+use crate::event::is_of_close_kind;
 use crate::examples::{action, grant, numbered, CLOSE, POLICY_F};
 use crate::policy::Term;
 use crate::raw::RawInstance;
@@ -193,7 +195,7 @@ pub fn faulty_multisets() -> Vec<(String, MultisetInput)> {
     found
 }
 
-/// Input for one event on a raw instance, and for its status.
+/// Input for one event on a raw instance, and for its status, which is lent no workspace.
 #[derive(Clone, Debug, PartialEq, Eq)]
 pub struct EventInput {
     /// The instance.
@@ -208,13 +210,47 @@ pub struct EventInput {
 pub fn event_input(random: &mut Random) -> EventInput {
     let (words, actions) = random.pick(&[(5, 3), (9, 4), (13, 5), (31, 4), (7, 7), (3, 12)]);
     let instance = instances::well_formed(random, words, actions);
-    let word = if random.percent(50) {
-        let number = instances::number(random, &instance);
-        numbered(random.below(instance.users) as u32, number)
-    } else {
-        event(random, instance.users, instance.roles)
+    let word = match random.below(20) {
+        0..=8 => {
+            let number = instances::number(random, &instance);
+            numbered(random.below(instance.users) as u32, number)
+        }
+        9..=11 => close_word(random),
+        12 => random.pick(&OTHER_WORDS),
+        _ => event(random, instance.users, instance.roles),
     };
-    EventInput { instance, word, workspace: workspace_length(random) }
+    EventInput { instance, word, workspace: event_workspace(random, word) }
+}
+
+/// The length of a workspace for an event: each one as often where it plays no part.
+fn event_workspace(random: &mut Random, word: u32) -> usize {
+    if is_of_close_kind(word) {
+        random.pick(&WORKSPACE_LENGTHS)
+    } else {
+        workspace_length(random)
+    }
+}
+
+/// Words of kind 4 and of others, each with workspaces of every length of interest, on instances with
+/// each letter and on malformed ones.
+fn status_edges(random: &mut Random) -> Vec<(String, EventInput)> {
+    let mut found = Vec::new();
+    let mut add = |name: &str, instance: RawInstance, words: &[u32], lengths: &[usize]| {
+        for (word, workspace) in words.iter().flat_map(|word| lengths.iter().map(|l| (*word, *l))) {
+            let name = format!("{name}, event {word:08x}, workspace of {workspace}");
+            found.push((name, EventInput { instance, word, workspace }));
+        }
+    };
+    for (name, instance) in statuses::well_formed() {
+        add(&name, instance, &CLOSE_WORDS, &WORKSPACE_LENGTHS);
+        add(&name, instance, &OTHER_WORDS, &[8191, 8192]);
+    }
+    let blank = ("blank".to_string(), RawInstance::BLANK);
+    for (name, instance) in statuses::malformed(random).into_iter().chain([blank]) {
+        add(&name, instance, &CLOSE_WORDS[..3], &[0, 8191, 8192]);
+        add(&name, instance, &OTHER_WORDS, &[0, 8191]);
+    }
+    found
 }
 
 /// An event on each malformed and each odd raw instance, with names.
@@ -224,7 +260,7 @@ pub fn event_edges(random: &mut Random) -> Vec<(String, EventInput)> {
     let mut found = Vec::new();
     for (name, instance) in named {
         for word in [action(0), action(1), CLOSE, grant(0, 0), 0] {
-            let input = EventInput { instance, word, workspace: workspace_length(random) };
+            let input = EventInput { instance, word, workspace: event_workspace(random, word) };
             found.push((format!("{name}, event {word:08x}"), input));
         }
     }
@@ -236,6 +272,7 @@ pub fn event_edges(random: &mut Random) -> Vec<(String, EventInput)> {
             found.push((format!("{name}, event {word:08x}"), input));
         }
     }
+    found.extend(status_edges(random));
     found
 }
 
@@ -251,6 +288,7 @@ fn full_instances(random: &mut Random) -> Vec<NamedInstance> {
             instance.count = count;
             instance.closed = closed;
             instance.actions[..count].iter_mut().for_each(|action| action.met = 0b1110);
+            let instance = lettered(random, instance);
             found.push((format!("{count} actions, closed {closed}"), instance));
             let ordered = instances::ordered(random, instance);
             found.push((format!("{count} actions, closed {closed}, a workflow"), ordered));

@@ -1,13 +1,13 @@
 //! Random cases and damaged case files.
 
 use super::terms::{self, Style};
-use super::{faults, secure, NamedFile, Random};
+use super::{faults, secure, statuses, NamedFile, Random};
 use crate::casefile::{write_case, Case};
 use crate::examples::{action, grant, numbered, revoke, CLOSE};
 use crate::policy::Operator;
 
 /// The kinds of random case files, in turn.
-const KINDS: [&str; 15] = [
+const KINDS: [&str; 16] = [
     "plain",
     "leaning",
     "small",
@@ -23,6 +23,7 @@ const KINDS: [&str; 15] = [
     "faulty workflow",
     "secure, damaged",
     "secure, equal",
+    "changing roles",
 ];
 
 /// A random case file of the kind whose turn it is; its name says the kind.
@@ -45,6 +46,7 @@ pub fn random_file(random: &mut Random, turn: usize) -> NamedFile {
         }
         "misworded" => write_case(&misworded(random)),
         "faulty" => write_case(&faulty(random)),
+        "changing roles" => write_case(&statuses::case(random)),
         "secure" => write_case(&secure::case(random)),
         "faulty workflow" => write_case(&secure::faulty_case(random)),
         "secure, damaged" => {

@@ -1,7 +1,8 @@
 //! Case files at the edges of what 01 and 02 allow, at least one for every refusal number that a case
-//! file can bring about, and users without a role under a not.
+//! file can bring about, users without a role under a not, and letters of the status that come and go.
 
 pub mod secure;
+pub mod statuses;
 
 use super::{faults, NamedFile};
 use crate::casefile::{join_parts, write_case, Case};
@@ -372,6 +373,11 @@ fn shifted_parts() -> Vec<NamedFile> {
     files
 }
 
+/// The edges that are worth following call by call: leavers, workflows, and letters of the status.
+pub fn runs() -> Vec<NamedCase> {
+    [leavers(), secure::runs(), statuses::runs()].concat()
+}
+
 /// All edges; the names are all different.
 pub fn all() -> Vec<NamedFile> {
     let mut files = vec![("listing L".to_string(), LISTING_L.to_vec())];
@@ -391,6 +397,7 @@ pub fn all() -> Vec<NamedFile> {
         wrong_pairs(),
         shifted_parts(),
         secure::files(),
+        statuses::files(),
     ] {
         files.extend(more);
     }

@@ -2,18 +2,19 @@
 
 use super::cases::{event, user_roles};
 use super::secure;
+use super::statuses::{self, each_letter, lettered};
 use super::terms::{self, Style};
 use super::Random;
 use crate::examples::{action, numbered};
 use crate::policy::{Operator, Term};
-use crate::raw::{RawAction, RawInstance, CLOSED_MARKS, WIDE_BITS, WORD_BITS};
+use crate::raw::{RawAction, RawInstance, CLOSED_MARKS, NARROW_BITS, WIDE_BITS};
 use crate::secure::{Given, Secure, Transition};
 
 /// A raw instance with a name that says what is odd about it.
 pub type NamedInstance = (String, RawInstance);
 
-/// A well-formed raw instance with this policy; its noted bits and its closed mark are random, so
-/// that in most cases no run reaches it.
+/// A well-formed raw instance with this policy; its noted bits, its closed mark and its letter are
+/// random, so that in most cases no run reaches it.
 pub fn with_policy(
     random: &mut Random,
     style: Style,
@@ -34,7 +35,7 @@ pub fn with_policy(
         *action = RawAction { user: random.below(style.users), met: bits & mask };
     }
     raw.closed = if random.percent(15) { random.pick(&CLOSED_MARKS) } else { 0 };
-    raw
+    lettered(random, raw)
 }
 
 /// A random well-formed raw instance with at most this many policy words and actions.
@@ -139,23 +140,24 @@ pub fn last_acted() -> NamedInstance {
     ("three users alike, the last of whom acted".to_string(), raw)
 }
 
-/// The instance with one bit of one field flipped.
+/// The instance with one bit of one field flipped, or with another mark or letter.
 pub fn flipped(random: &mut Random, instance: RawInstance) -> RawInstance {
     let mut raw = instance;
     let wide = 1 << random.below(WIDE_BITS);
-    match random.below(15) {
+    let narrow = 1u8 << random.below(NARROW_BITS);
+    match random.below(18) {
         0 => raw.users ^= wide,
         1 => raw.roles ^= wide,
-        2 => raw.length ^= 1 << random.below(WORD_BITS),
-        3 => raw.count ^= 1 << random.below(8),
+        2 => raw.length ^= usize::from(narrow),
+        3 => raw.count ^= usize::from(narrow),
         4 => raw.policy[random.below(31)] ^= 1 << random.below(32),
         5 => raw.user_roles[random.below(16)] ^= 1 << random.below(16),
         6 => raw.actions[random.below(12)].user ^= wide,
         7 => raw.actions[random.below(12)].met ^= 1 << random.below(32),
         8 => raw.permissions[random.below(16)] ^= 1 << random.below(64),
-        9 => raw.states ^= 1 << random.below(8),
+        9 => raw.states ^= narrow,
         10 => raw.final_states ^= 1 << random.below(16),
-        11 => raw.arrows ^= 1 << random.below(8),
+        11 => raw.arrows ^= narrow,
         12 => raw.state ^= wide,
         13 => {
             let arrow = &mut raw.transitions[random.below(64)];
@@ -163,10 +165,24 @@ pub fn flipped(random: &mut Random, instance: RawInstance) -> RawInstance {
             bytes[random.below(3)] ^= 1 << random.below(8);
             *arrow = Transition::new(bytes);
         }
-        _ if raw.closed == 0 => raw.closed = random.pick(&CLOSED_MARKS),
-        _ => raw.closed = 0,
+        14 => raw.letter ^= narrow,
+        15 => raw.letter = random.pick(b"ocd"),
+        16 => {
+            raw.closed = other_mark(random, raw.closed);
+            raw = lettered(random, raw);
+        }
+        _ => raw.closed = other_mark(random, raw.closed),
     }
     raw
+}
+
+/// The mark of an open instance for that of a closed one, and the reverse.
+fn other_mark(random: &mut Random, mark: u8) -> u8 {
+    if mark == 0 {
+        random.pick(&CLOSED_MARKS)
+    } else {
+        0
+    }
 }
 
 /// An instance that leaves room to be malformed in every way: some user, role, policy word, place
@@ -206,11 +222,10 @@ fn malformed_counts(random: &mut Random) -> Vec<NamedInstance> {
         found.push(with(random, &format!("bit {bit} of users"), |raw| raw.users |= 1 << bit));
         found.push(with(random, &format!("bit {bit} of roles"), |raw| raw.roles |= 1 << bit));
     }
-    for bit in 8..WORD_BITS {
-        found.push(with(random, &format!("bit {bit} of words"), |raw| raw.length |= 1 << bit));
-    }
+    let blank = |closed, letter| RawInstance { closed, letter, ..RawInstance::BLANK };
     found.push(("blank".to_string(), RawInstance::BLANK));
-    found.push(("blank, closed".to_string(), RawInstance { closed: 1, ..RawInstance::BLANK }));
+    found.push(("blank, status o".to_string(), blank(0, b'o')));
+    found.push(("blank, closed".to_string(), blank(1, b'd')));
     found
 }
 
@@ -313,6 +328,15 @@ fn roomy_ordered(random: &mut Random) -> RawInstance {
     raw
 }
 
+/// A roomy instance, with a workflow or without.
+pub fn some_roomy(random: &mut Random) -> RawInstance {
+    if random.percent(50) {
+        roomy_ordered(random)
+    } else {
+        roomy(random)
+    }
+}
+
 /// The roomy instance under permissions and a workflow, with something altered.
 fn ordered_with(
     random: &mut Random,
@@ -400,12 +424,19 @@ pub fn malformed(random: &mut Random) -> Vec<NamedInstance> {
         malformed_workflows,
         malformed_states,
         malformed_ordered_rest,
+        statuses::malformed,
     ];
     kinds.into_iter().flat_map(|kind| kind(random)).collect()
 }
 
-/// Raw instances that no run reaches and that are not malformed all the same.
+/// Raw instances that no run reaches and that are not malformed all the same, with each letter that
+/// they may have.
 pub fn odd_but_well_formed(random: &mut Random) -> Vec<NamedInstance> {
+    odd(random).into_iter().flat_map(each_letter).collect()
+}
+
+/// Such instances, whatever their letters.
+fn odd(random: &mut Random) -> Vec<NamedInstance> {
     let style = Style { users: 3, roles: 2, lean: 60 };
     let unit = Term::join(Operator::Either, Term::Role(0), Term::Role(1));
     let base = |random: &mut Random, policy: &Term| RawInstance {
