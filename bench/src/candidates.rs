@@ -84,10 +84,10 @@ fn verdict(yes: bool) -> u8 {
     }
 }
 
-/// The start of a case, made from an opening by noting the actions taken; no event judges them,
-/// since a short policy would not take so many.
+/// The start of a case, made from an opening by noting the actions taken, with the letter of the status
+/// that they have; no event judges them, since a short policy would not take so many.
 fn start(case: &Case) -> RawInstance {
-    let (users, roles) = (case.users().into(), case.roles().into());
+    let (users, roles) = (case.users().into(), case.roles.into());
     let (words, rows) = (&case.policy.words, &case.policy.rows);
     let (code, mut raw) = RawInstance::open_secure(users, roles, words, rows, case.given());
     if code != 0 {
@@ -100,7 +100,7 @@ fn start(case: &Case) -> RawInstance {
         raw.actions[place] = RawAction::taken(opened.policy(), user, &held);
     }
     raw.count = case.taken.len();
-    raw
+    raw.with_defined_letter()
 }
 
 /// An instance of the reference program as the hand-tuned program keeps it.
@@ -125,9 +125,10 @@ fn from_raw(raw: &RawInstance) -> Monitor {
         policy: raw.policy,
         actions: raw.actions.map(|a| Action { user: a.user as u32, met: a.met }),
         workflow,
-        words: raw.length as u16,
+        words: raw.length as u8,
         taken: raw.count as u8,
         closed: raw.closed,
+        status: raw.letter,
         state: raw.state as u32,
     };
     Monitor { configuration, instance }
@@ -156,7 +157,7 @@ impl<'a> Proved<'a> {
 impl Candidate for Proved<'_> {
     fn run(&mut self) -> u8 {
         let Proved { case, library, start, now, workspace, users: named, place } = self;
-        let (users, roles) = (case.users(), case.roles());
+        let (users, roles) = (case.users(), case.roles);
         let (policy, rows) = (&case.policy.words[..], &case.policy.rows[..]);
         let workspace = &mut workspace.0[..];
         let calls = library.calls();
@@ -165,6 +166,7 @@ impl Candidate for Proved<'_> {
                 now.clone_from(start);
                 library.event(now, *word, workspace)
             }
+            Job::Refused(word) => library.event(now, *word, workspace),
             Job::Status => library.status(now, workspace),
             Job::Enabled(action) => library.enabled(now, *action, workspace, named),
             Job::Multiset(counts) => {
@@ -179,8 +181,10 @@ impl Candidate for Proved<'_> {
         self.library.monitor(&self.now)
     }
 
+    /// Where the status is not kept, the actions are judged, and the workspace speaks of them.
     fn words(&self) -> Option<&[u32]> {
-        Some(&self.workspace.0[..words_left(self.case)])
+        let comparable = self.library.keeps_status() || !self.case.goes_by_status();
+        comparable.then_some(&self.workspace.0[..words_left(self.case)])
     }
 
     fn users(&self) -> u16 {
@@ -254,6 +258,16 @@ impl<'a> Searched<'a> {
         Searched { case, start, now: start, workspace, fills, users: 0, place: NO_PLACE }
     }
 
+    /// What a run begins with. The answer alone, where it goes by the status, begins with a search for
+    /// the letter.
+    fn first(&self) -> RawInstance {
+        if self.case.goes_by_status() && !self.fills {
+            self.start.with_defined_letter()
+        } else {
+            self.start
+        }
+    }
+
     /// The multiset test without a workspace.
     fn multiset(&self, users: usize, roles: usize, counts: &[u8; 16]) -> Result<bool, u32> {
         let (policy, rows) = (&self.case.policy.words, &self.case.policy.rows);
@@ -264,18 +278,18 @@ impl<'a> Searched<'a> {
 
 impl Candidate for Searched<'_> {
     fn run(&mut self) -> u8 {
-        let (users, roles) = (self.case.users().into(), self.case.roles().into());
+        let (users, roles) = (self.case.users().into(), self.case.roles.into());
         let (policy, rows) = (&self.case.policy.words[..], &self.case.policy.rows[..]);
+        (self.now, self.users) = (self.first(), 0);
         let workspace = &mut self.workspace.0[..];
-        self.now = self.start;
-        self.users = 0;
         let number = |code: u32| code as u8;
         let letter = |letter: char| letter as u8;
         match (&self.case.job, self.fills) {
-            (Job::Event(word), true) => number(self.now.event(*word, workspace)),
-            (Job::Event(word), false) => number(self.now.step(*word).code),
-            (Job::Status, true) => self.now.status(workspace).map_or_else(number, letter),
-            (Job::Status, false) => self.now.letter().map_or_else(number, letter),
+            (Job::Event(word) | Job::Refused(word), true) => {
+                number(self.now.event(*word, workspace))
+            }
+            (Job::Event(word) | Job::Refused(word), false) => number(self.now.step(*word).code),
+            (Job::Status, _) => self.now.status().map_or_else(number, letter),
             (Job::Enabled(action), fills) => {
                 self.users = tried(&self.now, *action, fills.then_some(workspace));
                 0
@@ -353,7 +367,7 @@ impl<'a> Tuned<'a> {
 impl Candidate for Tuned<'_> {
     fn run(&mut self) -> u8 {
         let Tuned { case, start, now, workspace, fill, users: named, place } = self;
-        let (users, roles) = (case.users(), case.roles());
+        let (users, roles) = (case.users(), case.roles);
         let (policy, rows) = (&case.policy.words[..], &case.policy.rows[..]);
         let workspace = &mut workspace.0[..];
         match &case.job {
@@ -361,7 +375,8 @@ impl Candidate for Tuned<'_> {
                 now.clone_from(start);
                 byte(now.event(*word, workspace, *fill), |()| 0)
             }
-            Job::Status => byte(now.status(workspace, *fill), |status| status.letter() as u8),
+            Job::Refused(word) => byte(now.event(*word, workspace, *fill), |()| 0),
+            Job::Status => byte(now.status(), |letter| letter),
             Job::Enabled(action) => byte(now.enabled(*action, workspace), |users| {
                 *named = users;
                 0
@@ -430,10 +445,8 @@ mod tests {
                 let got = byte(monitor.event(input.word, &mut workspace, fill), |()| 0);
                 assert_eq!((got, monitor), (code, from_raw(&raw)), "{input:x?}");
                 assert_eq!(workspace, expected, "{input:x?}");
-                let letter = raw.status(&mut expected).map_or_else(|code| code as u8, |c| c as u8);
-                let got = monitor.status(&mut workspace, fill);
-                assert_eq!(byte(got, |status| status.letter() as u8), letter, "{input:x?}");
-                assert_eq!(workspace, expected, "{input:x?}");
+                let letter = raw.status().map_or_else(|code| code as u8, |c| c as u8);
+                assert_eq!(byte(monitor.status(), |letter| letter), letter, "{input:x?}");
             }
         }
     }

@@ -2,7 +2,7 @@
 
 use std::collections::BTreeSet;
 
-use oskhrein::Event;
+use oskhrein::{Event, MAX_ROLES};
 use reference::policy::{met_bits, ones, read_term};
 
 /// Kinds of policy words.
@@ -17,7 +17,7 @@ pub const TOGETHER: u32 = 8 << 24;
 /// As together, and the parts share no user.
 pub const APART: u32 = 9 << 24;
 
-/// How many users are declared, and how many roles.
+/// How many users are declared, and how many roles unless a case says otherwise.
 const USERS: u8 = 16;
 const ROLES: u8 = 8;
 
@@ -29,6 +29,8 @@ const OUTSIDER: u8 = USERS - 1;
 pub enum Job {
     /// An event by its word.
     Event(u32),
+    /// One that leaves the monitor as it was, which is then not copied for each run.
+    Refused(u32),
     /// The status.
     Status,
     /// Who may execute the action with this number.
@@ -68,9 +70,11 @@ pub struct Order {
 pub struct Case {
     /// What is measured.
     pub what: String,
+    /// How many roles are declared.
+    pub roles: u8,
     /// The policy.
     pub policy: Policy,
-    /// How many actions are judged; for a grant and for who may act, how many are taken.
+    /// How many actions are judged; for calls that judge none and for who may act, how many are taken.
     pub actions: usize,
     /// How many users act.
     pub acting: usize,
@@ -167,6 +171,7 @@ impl Case {
                 Job::Event(action(OUTSIDER))
             }
             "event: grant" => Job::Event(Event::Grant { user: 0, role: ROLES - 1 }.word()),
+            "close" => Job::Event(CLOSE),
             "status" => Job::Status,
             "enabled" => Job::Enabled(0),
             "multiset" => Job::Multiset(counts),
@@ -174,7 +179,7 @@ impl Case {
             _ => Job::Open,
         };
         let (what, acting) = (what.to_string(), acting.min(actions));
-        Case { what, policy, actions, acting, taken: users, job, order: None }
+        Case { what, roles: ROLES, policy, actions, acting, taken: users, job, order: None }
     }
 
     /// Who may act after so many actions, by so many users in turn.
@@ -192,7 +197,7 @@ impl Case {
     /// the same would be noted.
     pub fn kinds(&self) -> usize {
         let Policy { words, rows, .. } = &self.policy;
-        let term = read_term(USERS.into(), ROLES.into(), words).expect("it is accepted");
+        let term = read_term(USERS.into(), self.roles.into(), words).expect("it is accepted");
         let others = (0..USERS).filter(|user| !self.taken.contains(user)).map(usize::from);
         let noted: BTreeSet<u32> =
             others.map(|user| met_bits(&term, user, &ones(rows[user]))).collect();
@@ -209,14 +214,29 @@ impl Case {
         Case { order: None, ..self.clone() }
     }
 
+    /// The same case with the test of 15 alone asked for; in place of an event it has, as that one, a copy
+    /// of the monitor made first.
+    pub fn tested(&self) -> Case {
+        let job = match self.job {
+            Job::Event(_) => Job::Event(OUT_OF_LAYOUT),
+            _ => Job::Refused(OUT_OF_LAYOUT),
+        };
+        Case { job, ..self.clone() }
+    }
+
+    /// Whether the status that a monitor keeps decides: it is asked for, or the word is of a close's
+    /// kind.
+    pub fn goes_by_status(&self) -> bool {
+        match self.job {
+            Job::Status => true,
+            Job::Event(word) | Job::Refused(word) => word >> 24 == CLOSE >> 24,
+            _ => false,
+        }
+    }
+
     /// How many users are declared.
     pub fn users(&self) -> u8 {
         USERS
-    }
-
-    /// How many roles are declared.
-    pub fn roles(&self) -> u8 {
-        ROLES
     }
 
     /// Its name: what is asked, the policy, its words, the actions and the users who act.
@@ -229,14 +249,19 @@ impl Case {
 }
 
 /// The word of an action.
-pub fn action(user: u8) -> u32 {
+pub const fn action(user: u8) -> u32 {
     numbered(user, 0)
 }
 
 /// The word of an action with this number.
-pub fn numbered(user: u8, number: u8) -> u32 {
+pub const fn numbered(user: u8, number: u8) -> u32 {
     Event::Action { user, number }.word()
 }
+
+/// The word of a close, and one of its kind that is out of layout: on a well-formed monitor that is not
+/// closed it is answered 7, and asks for nothing but 15, 10 and 7.
+const CLOSE: u32 = Event::Close.word();
+const OUT_OF_LAYOUT: u32 = CLOSE | 1;
 
 /// The action that the last transition of a workflow has in its last state, one that no transition has
 /// there, and one that no role gives.
@@ -244,13 +269,14 @@ const DUE: u8 = 3;
 const NOT_DUE: u8 = 4;
 const NOT_GIVEN: u8 = 5;
 
-/// A workflow of 64 transitions, four in each of 16 states, in its last state, under permissions by
-/// which these roles give all of its actions. The transition for the action that is due comes last.
-fn order(giving: u16) -> Order {
+/// A workflow of 64 transitions, four in each of 16 states, in its last state, which is final, under
+/// permissions by which, of so many roles, these give all of its actions. The transition for the action
+/// that is due comes last.
+fn order(roles: u8, giving: u16) -> Order {
     let transitions = (0..64u8).flat_map(|place| [place / 4, place % 4, (place / 4 + 1) % 16]);
     let row = |role: u8| if giving >> role & 1 == 1 { 1u64 << NOT_DUE | 0b1111 } else { 0 };
     Order {
-        permissions: (0..ROLES).flat_map(|role| row(role).to_le_bytes()).collect(),
+        permissions: (0..roles).flat_map(|role| row(role).to_le_bytes()).collect(),
         workflow: [16, 64, 0, 0x80].into_iter().chain(transitions).collect(),
         state: 15,
     }
@@ -262,14 +288,14 @@ fn user_of(word: u32) -> u8 {
 }
 
 impl Case {
-    /// The same case under such an order, with this action.
+    /// The same case under such an order, with this action in place of the one asked for.
     fn ordered(self, what: &str, giving: u16, number: u8) -> Case {
         let job = match self.job {
-            Job::Event(word) => Job::Event(numbered(user_of(word), number)),
+            Job::Event(word) if word != CLOSE => Job::Event(numbered(user_of(word), number)),
             Job::Enabled(_) => Job::Enabled(number),
             other => other,
         };
-        Case { what: what.to_string(), job, order: Some(order(giving)), ..self }
+        Case { what: what.to_string(), job, order: Some(order(self.roles, giving)), ..self }
     }
 }
 
@@ -406,6 +432,35 @@ pub fn enabled() -> Vec<Case> {
     cases
 }
 
+/// The rows of the table of status and close: 16 roles, each size without permissions and workflow,
+/// then with both. The number that a close is answered goes with the size.
+pub fn by_status() -> Vec<Case> {
+    let sizes = [
+        (two_signatures(), 2, 2, "close: 0"),
+        (policy_f(), 4, 3, "close: 0"),
+        (licensee(), 5, 5, "close: 0"),
+        (made(APART, 31), 0, ACTING, "close: 11"),
+        (made(APART, 31), 4, ACTING, "close: 11"),
+        (made(APART, 31), 12, ACTING, "close: 11"),
+        (made(APART, 31), 12, 12, "close: 0"),
+    ];
+    let rows = |call: &'static str| {
+        sizes.clone().into_iter().flat_map(move |(policy, actions, acting, closed)| {
+            let case = Case::new(call, policy, actions, acting);
+            let what = if call == "close" { closed } else { call };
+            let case = Case { what: what.to_string(), roles: MAX_ROLES as u8, ..case };
+            [case.clone(), case.ordered(&format!("{what}, workflow"), u16::MAX, DUE)]
+        })
+    };
+    rows("status").chain(rows("close")).collect()
+}
+
+/// The test of 15 alone, for each size in that table.
+fn tests_alone() -> Vec<Case> {
+    let asked = by_status().into_iter().filter(|case| matches!(case.job, Job::Status));
+    asked.map(|case| Case { what: case.what.replace("status", "15"), ..case.tested() }).collect()
+}
+
 /// The opening whose policy the refused ones are made from.
 pub fn accepted() -> Case {
     Case::new("opening", made(APART, 31), 0, 0)
@@ -439,7 +494,7 @@ pub fn refused() -> Vec<Case> {
 
 /// The rows of all tables.
 pub fn all() -> Vec<Case> {
-    [calls(), enabled(), refused(), ordered()].concat()
+    [calls(), enabled(), refused(), ordered(), by_status(), tests_alone()].concat()
 }
 
 /// The rows of the table of calls; in each family the cases with more actions come later.

@@ -6,14 +6,16 @@
 //! - (d) one table a term.
 //!
 //! Who may act has a table of its own, where one event and a trial for each user stand beside it, and
-//! so have refused policies, and permissions and workflows, where the same without them stands beside.
+//! so have refused policies, permissions and workflows, where the same without them stands beside, and
+//! status and close, beside the test of a monitor alone.
 //!
 //! Before a case is timed, all of them must agree on the answer, the monitor and the place of a
 //! policy's fault, and those that fill the workspace on every word of it. Times are for reading;
 //! nothing passes or fails by them.
 //!
 //! `bench enabled` prints the table of who may act alone, `bench refused` that of refused policies,
-//! `bench workflow` that of permissions and workflows, `bench rows` lists the rows of all tables, `bench time ROW..` times some of them without (b) and
+//! `bench workflow` that of permissions and workflows, `bench status` that of status and close.
+//! `bench rows` lists the rows of all tables, `bench time ROW..` times some of them without (b) and
 //! (d), and `bench repeat ROW CANDIDATE RUNS` does one of them so often, for a program that counts
 //! instructions.
 
@@ -24,6 +26,7 @@ mod growth;
 mod library;
 mod refused;
 mod report;
+mod status;
 mod timing;
 mod tuned;
 mod workflow;
@@ -40,6 +43,7 @@ const USAGE: &str = "usage: bench
        bench enabled
        bench refused
        bench workflow
+       bench status
        bench rows
        bench time ROW..
        bench repeat ROW CANDIDATE RUNS";
@@ -110,7 +114,7 @@ fn agree(case: &Case, all: &mut [Box<dyn Candidate + '_>]) {
 
 /// Prints all tables and how the cost grows.
 fn print(builds: &Builds) {
-    report::head(builds.earlier.is_some());
+    report::head(builds.earlier.as_ref());
     let mut rows = Vec::new();
     let cases = cases::calls();
     timing::warm_up(&mut builds.candidates(&cases[0]));
@@ -126,6 +130,7 @@ fn print(builds: &Builds) {
     enabled::print(builds);
     refused::print(builds);
     workflow::print(builds);
+    status::print(builds);
 }
 
 /// Prints one table alone.
@@ -176,6 +181,7 @@ fn run(arguments: &[&str]) -> Result<(), String> {
         ["enabled"] => print_alone(&Builds::new()?, enabled::print),
         ["refused"] => print_alone(&Builds::new()?, refused::print),
         ["workflow"] => print_alone(&Builds::new()?, workflow::print),
+        ["status"] => print_alone(&Builds::new()?, status::print),
         ["rows"] => {
             for (row, case) in cases::all().iter().enumerate() {
                 println!("{row} | {}", case.name().join(" | "));

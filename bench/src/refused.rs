@@ -41,7 +41,7 @@ impl<'a> ByNumbers<'a> {
 
     /// The number of an opening under some words of the policy.
     fn number(&mut self, words: &[u32]) -> u8 {
-        let (users, roles) = (self.case.users(), self.case.roles());
+        let (users, roles) = (self.case.users(), self.case.roles);
         let (counts, rows) = ((users, roles), &self.case.policy.rows);
         self.library.open(&mut self.part, counts, words, rows, (&[], &[]), &mut 0)
     }
@@ -75,7 +75,7 @@ impl<'a> ByNumbers<'a> {
 impl Candidate for ByNumbers<'_> {
     fn run(&mut self) -> u8 {
         let Case { policy, .. } = self.case;
-        let (users, roles) = (self.case.users(), self.case.roles());
+        let (users, roles) = (self.case.users(), self.case.roles);
         let (words, rows) = (&policy.words, &policy.rows);
         let counts = (users, roles);
         let number = self.library.open(&mut self.now, counts, words, rows, (&[], &[]), &mut 0);

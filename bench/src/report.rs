@@ -1,6 +1,7 @@
 //! The table.
 
 use crate::cases::Case;
+use crate::library::Library;
 use crate::timing::Timed;
 
 /// A case and the times of its candidates.
@@ -72,7 +73,8 @@ impl Row {
 /// What stands over the rows.
 const HEAD: &str = "\
 - (a) the proved library
-- (b) the reference program's search, with the workspace; (b') its answer alone, no workspace filled
+- (b) the reference program's search, with the workspace; (b') its answer alone, no workspace filled;
+  of a status (b) the letter that is kept, (b') the letter by search
 - (c) the library's table tuned by hand
 - (d) one table a term";
 
@@ -90,17 +92,17 @@ made to measure: \"mostly together\" and \"mostly apart\" are balanced trees of 
 Actions: how many are judged, those taken before among them. Users: how many users act, in turn. An
 action is the last of them, and is asked for with the others taken. An outsider is a user without any
 role, whose action is turned away after the others' eleven. A grant goes to an instance with eleven
-actions, and judges none.
+actions, and judges none. Nor does a status.
 ";
 
 /// Prints what stands over the rows.
-pub fn head(earlier: bool) {
+pub fn head(earlier: Option<&Library>) {
     println!("{HEAD}");
-    if earlier {
-        println!("- (e) an earlier build of the library");
+    if let Some(earlier) = earlier {
+        println!("- (e) an earlier build of the library, version {}", earlier.version());
     }
     println!("{WORDS}");
-    let (more, lines) = if earlier { (" (e) | a/e |", "---|---|") } else { ("", "") };
+    let (more, lines) = earlier.map_or(("", ""), |_| (" (e) | a/e |", "---|---|"));
     let times = "(a) | (b) | (b') | (c) | (d) | a/c | b/a | b'/a | d/a |";
     println!("| call | policy | words | actions | users | {times}{more}");
     println!("|{}{lines}", "---|".repeat(14));

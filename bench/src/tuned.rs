@@ -10,7 +10,7 @@ pub mod policy;
 pub mod rows;
 pub mod workflow;
 
-use oskhrein::{Refusal, Status};
+use oskhrein::Refusal;
 use policy::{All, Nobody, One, Shape, Who};
 use workflow::Workflow;
 
@@ -54,11 +54,13 @@ pub struct Instance {
     /// The workflow.
     pub workflow: Workflow,
     /// How many words.
-    pub words: u16,
+    pub words: u8,
     /// How many actions.
     pub taken: u8,
-    /// 0 while it is open.
+    /// 0 until it is closed.
     pub closed: u8,
+    /// The letter of its status.
+    pub status: u8,
     /// The workflow's state.
     pub state: u32,
 }
@@ -72,6 +74,18 @@ pub struct Monitor {
     /// What was done.
     pub instance: Instance,
 }
+
+/// The letter of an instance whose actions do not satisfy the policy, of one whose do, and of a closed
+/// one.
+const OPEN: u8 = b'o';
+const COMPLETE: u8 = b'c';
+const CLOSED: u8 = b'd';
+
+/// The kinds of event words.
+const ACTS: u8 = 1;
+const GRANTS: u8 = 2;
+const REVOKES: u8 = 3;
+const CLOSES: u8 = 4;
 
 /// An action that is tried after the taken ones.
 #[derive(Clone, Copy)]
@@ -146,6 +160,17 @@ impl Instance {
             && configuration.permissions.iter().fold(0, |all, row| all | row) == 0
     }
 
+    /// Whether the letter goes with the mark, and with whether there is an action.
+    #[inline]
+    fn is_lettered(&self) -> bool {
+        match self.status {
+            OPEN => self.closed == 0,
+            COMPLETE => self.closed == 0 && self.taken != 0,
+            CLOSED => self.closed != 0,
+            _ => false,
+        }
+    }
+
     /// The taken actions.
     #[inline]
     fn taken(&self) -> &[Action] {
@@ -166,18 +191,24 @@ impl Instance {
         }
         self.actions[place] = action;
         fill(shape, &self.actions[..=place], workspace);
-        if workspace[SETS + (2 << place) - 1] & 1 == 0 {
+        let all = (2 << place) - 1;
+        if workspace[SETS + all] & 1 == 0 {
             self.actions[place] = Action::default();
             return Err(Refusal::NotPossible);
         }
         self.taken += 1;
+        self.status = if workspace[all] & 1 == 1 { COMPLETE } else { OPEN };
         Ok(())
     }
 
-    /// Fills the workspace for the taken actions, and answers whether they satisfy the policy.
-    fn satisfied(&self, shape: &Shape, workspace: &mut [u32; WORDS], fill: Fill) -> bool {
-        fill(shape, self.taken(), workspace);
-        workspace[(1 << self.taken().len()) - 1] & 1 == 1
+    /// A close by its letter and its workflow's state.
+    #[inline]
+    fn close(&mut self) -> Result<(), Refusal> {
+        if self.status != COMPLETE || !self.workflow.may_end(self.state) {
+            return Err(Refusal::NotSatisfied);
+        }
+        (self.closed, self.status) = (1, CLOSED);
+        Ok(())
     }
 }
 
@@ -209,7 +240,7 @@ impl Monitor {
         (configuration.users, configuration.roles) = (users.into(), roles.into());
         configuration.user_roles[..rows.len()].copy_from_slice(rows);
         instance.policy[..words.len()].copy_from_slice(words);
-        instance.words = words.len() as u16;
+        (instance.words, instance.status) = (words.len() as u8, OPEN);
         Ok(())
     }
 
@@ -222,7 +253,8 @@ impl Monitor {
         let shape = policy::read(users, roles, words, who).ok()?;
         let well_formed = configuration.is_well_formed()
             && instance.is_well_formed(users, &shape)
-            && instance.is_placed(configuration);
+            && instance.is_placed(configuration)
+            && instance.is_lettered();
         well_formed.then_some(shape)
     }
 
@@ -237,60 +269,73 @@ impl Monitor {
         }
     }
 
-    /// One event: 12, 15, 10, 7, then 16, 17, 8, 9 or 11. The policy is read for the user that the word
-    /// names, whether or not it is an action's.
+    /// One event: 12, 15, 10, 7, then 16, 17, 8 or 9; of a close 15, 10, 7 or 11.
     pub fn event(&mut self, word: u32, workspace: &mut [u32], fill: Fill) -> Result<(), Refusal> {
-        let workspace = lent(workspace)?;
-        let [low, user, zero, kind] = word.to_le_bytes();
-        if kind == 1 {
-            let mut one = One::new(user, self.configuration.user_roles[usize::from(user & 15)]);
-            let shape = self.check(&mut one).ok_or(Refusal::Monitor)?;
-            return match () {
-                () if self.instance.closed != 0 => Err(Refusal::Closed),
-                () if zero != 0 || u32::from(user) >= self.configuration.users => {
-                    Err(Refusal::Malformed)
-                }
-                () => {
-                    let next = self.next(user.into(), low)?;
-                    let action = Action { user: user.into(), met: one.met };
-                    self.instance.act(&shape, action, workspace, fill)?;
-                    self.instance.state = next;
-                    Ok(())
-                }
-            };
+        match word.to_le_bytes() {
+            [_, _, _, CLOSES] => self.close(word),
+            [low, user, zero, ACTS] => self.act((low, user, zero), lent(workspace)?, fill),
+            [low, user, zero, kind] => {
+                lent(workspace)?;
+                self.grant((low, user, zero), kind)
+            }
         }
-        let shape = self.check(&mut Nobody).ok_or(Refusal::Monitor)?;
-        let Monitor { configuration, instance } = self;
-        let Configuration { user_roles, users, roles, .. } = configuration;
-        if instance.closed != 0 {
+    }
+
+    /// An action. The policy is read for the user that the word names.
+    fn act(
+        &mut self,
+        (low, user, zero): (u8, u8, u8),
+        workspace: &mut [u32; WORDS],
+        fill: Fill,
+    ) -> Result<(), Refusal> {
+        let mut one = One::new(user, self.configuration.user_roles[usize::from(user & 15)]);
+        let shape = self.check(&mut one).ok_or(Refusal::Monitor)?;
+        match () {
+            () if self.instance.closed != 0 => Err(Refusal::Closed),
+            () if zero != 0 || u32::from(user) >= self.configuration.users => {
+                Err(Refusal::Malformed)
+            }
+            () => {
+                let next = self.next(user.into(), low)?;
+                let action = Action { user: user.into(), met: one.met };
+                self.instance.act(&shape, action, workspace, fill)?;
+                self.instance.state = next;
+                Ok(())
+            }
+        }
+    }
+
+    /// A grant, a revocation or a word of an unknown kind.
+    fn grant(&mut self, (low, user, zero): (u8, u8, u8), kind: u8) -> Result<(), Refusal> {
+        self.check(&mut Nobody).ok_or(Refusal::Monitor)?;
+        if self.instance.closed != 0 {
             return Err(Refusal::Closed);
         }
+        let Configuration { user_roles, users, roles, .. } = &mut self.configuration;
         let declared = zero == 0 && u32::from(user) < *users && u32::from(low) < *roles;
         let row = &mut user_roles[usize::from(user & 15)];
         match kind {
-            2 if declared => *row |= 1 << (low & 15),
-            3 if declared => *row &= !(1 << (low & 15)),
-            4 if word == 4 << 24 => {
-                let satisfied = instance.satisfied(&shape, workspace, fill);
-                let may_end = satisfied && instance.workflow.may_end(instance.state);
-                instance.closed = may_end.into();
-                return may_end.then_some(()).ok_or(Refusal::NotSatisfied);
-            }
+            GRANTS if declared => *row |= 1 << (low & 15),
+            REVOKES if declared => *row &= !(1 << (low & 15)),
             _ => return Err(Refusal::Malformed),
         }
         Ok(())
     }
 
-    /// The status, or 12 or 15.
-    pub fn status(&self, workspace: &mut [u32], fill: Fill) -> Result<Status, Refusal> {
-        let workspace = lent(workspace)?;
-        let shape = self.check(&mut Nobody).ok_or(Refusal::Monitor)?;
-        let satisfied = self.instance.satisfied(&shape, workspace, fill);
-        Ok(match (self.instance.closed, satisfied) {
-            (0, true) => Status::Complete,
-            (0, false) => Status::Open,
-            _ => Status::Closed,
-        })
+    /// A close.
+    fn close(&mut self, word: u32) -> Result<(), Refusal> {
+        self.check(&mut Nobody).ok_or(Refusal::Monitor)?;
+        match () {
+            () if self.instance.closed != 0 => Err(Refusal::Closed),
+            () if word != u32::from(CLOSES) << 24 => Err(Refusal::Malformed),
+            () => self.instance.close(),
+        }
+    }
+
+    /// The letter of the status, or 15.
+    pub fn status(&self) -> Result<u8, Refusal> {
+        self.check(&mut Nobody).ok_or(Refusal::Monitor)?;
+        Ok(self.instance.status)
     }
 
     /// Who may execute an action, bit u for user u, or 12 or 15.

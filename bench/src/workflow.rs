@@ -15,7 +15,7 @@ action takes is the last one.
 - bare: the same call without permissions and workflow
 - (b) search, with the workspace; (b') its answer alone
 - (c) the call tuned by hand
-- (e) where there is an earlier build that has no workflows, its bare call
+- (e) an earlier build's call, where there is one; its bare call if it has no workflows
 
 Refused 16 and 17: an action that no role gives, and one that no transition has; bare, it is judged.
 Few are permitted: the role that gives the action is held by three of 16 users.
@@ -42,12 +42,12 @@ impl Row {
         let bare = case.bare();
         let mut all = builds.candidates(case);
         agree(case, &mut all);
-        // One table a term has no column here, and an earlier build is timed bare.
+        // One table a term has no column here, and an earlier build without workflows is timed bare.
         all.drain(..1);
-        all.truncate(4);
+        if all.len() == 4 {
+            all.extend(builds.main_candidates(&bare).drain(2..));
+        }
         all.insert(0, Box::new(Proved::new(&bare, &builds.linked)));
-        let earlier = builds.main_candidates(&bare).drain(2..).next();
-        all.extend(earlier);
         let mut times = timing::compare(&mut all).into_iter();
         let mut next = || times.next();
         let mut one = || next().expect("a case has at least five candidates");
