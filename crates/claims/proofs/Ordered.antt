@@ -1,7 +1,7 @@
 -- What an accepted opening makes of its permissions and its workflow: they are given exactly where they are not both empty, and then they are
 -- what the bytes say.
-use mathlib.Core.Path.{_≡_, refl, ap, subst, _∙_}
-use mathlib.Core.Bool.{Bool, true, false, So, _&&_}
+use mathlib.Core.Path.{_≡_, ap, subst, _∙_}
+use mathlib.Core.Bool.{Bool, true, false, So, _&&_, and-false}
 use mathlib.Core.List.{List}
 use Prim.Native.Nat.{ℕ, _-_}
 use lib.Dec.{eqb}
@@ -25,10 +25,6 @@ module _ (o : Opening) (z : openCode o ≡ 0) where
   in-form = permissionsOk (o .roles) (o .permissions) && saysWorkflow (o .workflow)
 
   -- nothing is no workflow
-  and-false : (b : Bool) → (b && false) ≡ false
-  and-false true = refl
-  and-false false = refl
-
   empty-is-none : So (areEmpty (o .permissions) (o .workflow)) → in-form ≡ false
   empty-is-none h =
       let none = so-eq (length (o .workflow)) 0 (and-split (eqb (length (o .permissions)) 0) (eqb (length (o .workflow)) 0) h .1) in

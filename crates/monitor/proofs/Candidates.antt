@@ -1,7 +1,7 @@
 -- What the trials of the candidates give.
 use mathlib.Core.Path.{_≡_, refl, sym, _∙_, ap, ap₂, subst}
 use mathlib.Core.Logic.{_⊎_, inl, inr}
-use mathlib.Core.Bool.{Bool, true, false, So, _&&_, cond, and-true}
+use mathlib.Core.Bool.{Bool, true, false, So, _&&_, cond, and-true, and-false}
 use mathlib.Core.List.{List, [], _∷_, _++_, map}
 use Prim.Native.Nat.{ℕ, suc, _-_, _≤_, _<_}
 use native.Mathlib.Omega.{arith}
@@ -89,10 +89,6 @@ module _ (c : Configuration) (i : Instance) (k : ℕ) (few : k ≤ 16) (within :
         neither false = refl
 
 -- ── the candidates ──
-pub and-false : (b : Bool) → (b && false) ≡ false
-and-false true = refl
-and-false false = refl
-
 module _ (c : Configuration) (i : Instance) (a : ℕ) where
   abbrev candidate : ℕ → Bool
   candidate = isCandidate c i a

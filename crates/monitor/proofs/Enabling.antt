@@ -1,7 +1,7 @@
 -- Who may act: what an action's word is read as, and what the trials give for the mask.
 use mathlib.Core.Path.{_≡_, refl, sym, _∙_, ap, ap₂, subst}
 use mathlib.Core.Logic.{_≢_, _⊎_, inl, inr}
-use mathlib.Core.Bool.{Bool, true, false, So, not, _&&_, _||_, cond, true≢false}
+use mathlib.Core.Bool.{Bool, true, false, So, not, _&&_, _||_, cond, and-false, true≢false}
 use mathlib.Core.List.{List, [], map}
 use Prim.Native.Nat.{ℕ, zero, suc, _-_, _/_, _%_, _^_, _≤_, _<_}
 use native.Mathlib.Omega.{arith}
@@ -39,7 +39,7 @@ use Rattle.monitor.specs.Private.{eachTried, monitorOutcome}
 use Rattle.monitor.proofs.Formed.{formed}
 use Rattle.monitor.proofs.Order.{admits, accepted-has-passed, not-admitted, not-entered, performed, close-asks-no-workspace}
 use Rattle.monitor.proofs.Effects.{refusal-alters-nothing}
-use Rattle.monitor.proofs.Candidates.{and-false, behind, behind-declared, past, last-is, can-act, triedTo, each-tried}
+use Rattle.monitor.proofs.Candidates.{behind, behind-declared, past, last-is, can-act, triedTo, each-tried}
 
 -- ── the word of an action ──
 module _ (u a : ℕ) (h : u < 256) (k : a < 256) where

@@ -1,6 +1,6 @@
 -- An event that was read names declared users and roles only; an action's word asks for a workspace, one of kind 4 is a close or malformed.
 use mathlib.Core.Path.{_≡_, refl, sym, _∙_}
-use mathlib.Core.Bool.{Bool, true, false, So, not, _&&_, cond, true≢false}
+use mathlib.Core.Bool.{Bool, true, false, So, not, _&&_, cond, and-false, true≢false}
 use Prim.Native.Nat.{ℕ, _/_, _%_, _^_, _≤_, _<_}
 use native.Mathlib.Omega.{arith}
 use mathlib.Core.List.{List}
@@ -77,11 +77,7 @@ long-enough Malformed w before h s = tt
 
 -- 8,192 words are enough for every word
 pub long-is-enough : (w n : ℕ) → 8192 ≤ n → isShort w n ≡ false
-long-is-enough w n h = rw (le-ltb n 8192 h) (neither (not (eqb (w / 2 ^ 24) CLOSE)))
-  where
-    neither : (b : Bool) → (b && false) ≡ false
-    neither true = refl
-    neither false = refl
+long-is-enough w n h = rw (le-ltb n 8192 h) (and-false (not (eqb (w / 2 ^ 24) CLOSE)))
 
 -- what holds of a close and of a malformed event holds of a word of kind 4
 pub of-kind-four : (P : Event → Type 0) (users roles w : ℕ) → w / 2 ^ 24 ≡ CLOSE → P Closes → P Malformed → P (readEvent users roles w)
