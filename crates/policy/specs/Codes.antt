@@ -22,6 +22,14 @@ TERM = 3
 abbrev pub UNIT : ℕ
 UNIT = 4
 
+-- a text does not begin with `policy: `
+abbrev pub OPENING : ℕ
+OPENING = 20
+
+-- what stands behind that is no term, or the text has more than 1,024 bytes
+abbrev pub TEXT : ℕ
+TEXT = 21
+
 -- ── the personnel desk ──
 -- users or roles not 1 to 16
 abbrev pub COUNTS : ℕ
@@ -70,7 +78,7 @@ NO-TRANSITION = 17
 abbrev pub WORKSPACE : ℕ
 WORKSPACE = 12
 
--- output shorter than the policy
+-- output shorter than the policy, or than what is to be written
 abbrev pub OUTPUT : ℕ
 OUTPUT = 13
 

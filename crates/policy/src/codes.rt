@@ -17,6 +17,12 @@ pub const TERM: u8 = 3;
 // Not or plus over a term that is no unit term.
 pub const UNIT: u8 = 4;
 
+// A text does not begin with `policy: `.
+pub const OPENING: u8 = 20;
+
+// What stands behind that is no term, or the text has more than 1,024 bytes.
+pub const TEXT: u8 = 21;
+
 // The personnel desk.
 
 // Users or roles not 1 to 16.
@@ -57,7 +63,7 @@ pub const NO_TRANSITION: u8 = 17;
 // Workspace below 8,192 words.
 pub const WORKSPACE: u8 = 12;
 
-// Output shorter than the policy.
+// Output shorter than the policy, or than what is to be written.
 pub const OUTPUT: u8 = 13;
 
 // Case file malformed.

@@ -1,0 +1,16 @@
+-- Texts and terms.
+pub mod Beginnings
+pub mod Numbers
+pub mod Members
+pub mod Parsing
+pub mod Lengths
+-- The calls.
+pub mod Policies
+pub mod Converting
+pub mod Opened
+pub mod Answers
+pub mod Returns
+-- Helpers of the crates above.
+pub mod Putting
+-- Examples.
+pub mod Examples
