@@ -1,2 +1,3 @@
+pub mod Conversions
 pub mod Bytes
 pub mod Walks

@@ -4,21 +4,24 @@ ghost use mathlib.Core.Path.{_≡_};
 ghost use lib.ListN.{length};
 ghost use Rattle.policy.specs.Faults.{codeNumber};
 ghost use Rattle.normal.specs.NormalForms.{normalCode, normalAnswer, normalOut};
+ghost use Rattle.text.specs.Reading.{readCode, readAnswer, readOut};
+ghost use Rattle.text.specs.Writing.{writeCode, writeAnswer, writeOut};
 ghost use Rattle.monitor.specs.Monitors.{given, bare};
 ghost use Rattle.monitor.specs.Events.{outcome};
 ghost use Rattle.monitor.specs.Statuses.{statusOf, statusNumber, letter};
 ghost use Rattle.multiset.specs.MultisetTest.{testOf, verdictCode, verdictLetter, Numbered};
 ghost use Rattle.embed.specs.Bytes.{byteOf, statusByte, verdictByte};
-ghost use Rattle.embed.specs.Lent.{placeLeft, openingLent, enabledLent};
+ghost use Rattle.embed.specs.Lent.{placeLeft, openingLent, enabledLent, conversionCode, lengthLeft, LengthLent};
 ghost use Rattle.embed.specs.Versions.{version, layout};
 use monitor::Enabled;
 use monitor::Monitor;
 use monitor::Status;
 use multiset::Verdict;
 use policy::Code;
+use text::Converted;
 
-// The version, 0.6.0: major, minor and patch number, a byte each.
-const VERSION: u32 = 0x000600;
+// The version, 0.7.0: major, minor and patch number, a byte each.
+const VERSION: u32 = 0x000700;
 
 // The number of the layout of what is lent: another one whenever a field of it comes, goes, moves or means something else.
 const LAYOUT: u32 = 4;
@@ -175,6 +178,51 @@ pub extern "C" fn oskhrein_normal_form(
 {
     let code = normal::normal_form(users, roles, words, out);
     lend(code, place)
+}
+
+// A conversion's number. How many words or bytes were written, or the place of a policy's fault, goes to what is lent for it.
+fn lend_length(converted: Converted, written: &mut usize, place: &mut u8) -> u8
+    ensures { λ r. ⌜ LengthLent converted (now (written .entry)) (now (place .entry)) r (now (written .exit)) (now (place .exit)) ⌝ }
+{
+    match converted {
+        Converted::Written(n) => {
+            *written = n;
+            0
+        }
+        Converted::Refused(code) => lend(code, place),
+    }
+}
+
+// A policy's text read: its words, at the start of an output that the caller keeps, and how many they are.
+#[no_mangle]
+pub extern "C" fn oskhrein_read_text(
+    users: u8,
+    roles: u8,
+    text: &[u8],
+    out: &mut [u32],
+    written: &mut usize,
+    place: &mut u8,
+) -> u8
+    ensures { λ r. ⌜ (r ≡ readCode users roles (now (text .entry)) (length (now (out .entry)))) × (now (written .exit) ≡ lengthLeft (readAnswer users roles (now (text .entry)) (length (now (out .entry)))) (now (written .entry))) × (now (place .exit) ≡ placeLeft (conversionCode (readAnswer users roles (now (text .entry)) (length (now (out .entry))))) (now (place .entry))) × (now (out .exit) ≡ readOut users roles (now (text .entry)) (now (out .entry))) ⌝ }
+{
+    let converted = parser::read_text(users, roles, text, out);
+    lend_length(converted, written, place)
+}
+
+// A policy's text, at the start of an output that the caller keeps, and how many bytes it has.
+#[no_mangle]
+pub extern "C" fn oskhrein_write_text(
+    users: u8,
+    roles: u8,
+    words: &[u32],
+    out: &mut [u8],
+    written: &mut usize,
+    place: &mut u8,
+) -> u8
+    ensures { λ r. ⌜ (r ≡ writeCode users roles (now (words .entry)) (length (now (out .entry)))) × (now (written .exit) ≡ lengthLeft (writeAnswer users roles (now (words .entry)) (length (now (out .entry)))) (now (written .entry))) × (now (place .exit) ≡ placeLeft (conversionCode (writeAnswer users roles (now (words .entry)) (length (now (out .entry))))) (now (place .entry))) × (now (out .exit) ≡ writeOut users roles (now (words .entry)) (now (out .entry))) ⌝ }
+{
+    let converted = printer::write_text(users, roles, words, out);
+    lend_length(converted, written, place)
 }
 
 // The version of the library.
