@@ -119,6 +119,26 @@ exported! {
         n_out: usize,
         place: *mut u8,
     ) -> u8;
+    read_text: oskhrein_read_text(
+        users: u8,
+        roles: u8,
+        text: *const u8,
+        n_text: usize,
+        out: *mut u32,
+        n_out: usize,
+        written: *mut usize,
+        place: *mut u8,
+    ) -> u8;
+    write_text: oskhrein_write_text(
+        users: u8,
+        roles: u8,
+        words: *const u32,
+        n_words: usize,
+        out: *mut u8,
+        n_out: usize,
+        written: *mut usize,
+        place: *mut u8,
+    ) -> u8;
     version: oskhrein_version() -> u32;
     layout: oskhrein_layout() -> u32;
 }
@@ -214,6 +234,39 @@ impl Calls {
         let (out, n_out) = (out.as_mut_ptr(), out.len());
         // SAFETY: 1 and 2 by the parameters' types; 3 asks nothing, since no monitor is lent.
         unsafe { (self.normal_form)(users, roles, words, n_words, out, n_out, place) }
+    }
+
+    /// A policy's text read: its words at the start of the output, and how many they are. A refusal
+    /// leaves both.
+    pub fn read_text(
+        &self,
+        users: u8,
+        roles: u8,
+        text: &[u8],
+        out: &mut [u32],
+        written: &mut usize,
+        place: &mut u8,
+    ) -> u8 {
+        let (text, n_text) = (text.as_ptr(), text.len());
+        let (out, n_out) = (out.as_mut_ptr(), out.len());
+        // SAFETY: 1 and 2 by the parameters' types; 3 asks nothing, since no monitor is lent.
+        unsafe { (self.read_text)(users, roles, text, n_text, out, n_out, written, place) }
+    }
+
+    /// A policy's text at the start of the output, and how many bytes it has. A refusal leaves both.
+    pub fn write_text(
+        &self,
+        users: u8,
+        roles: u8,
+        words: &[u32],
+        out: &mut [u8],
+        written: &mut usize,
+        place: &mut u8,
+    ) -> u8 {
+        let (words, n_words) = (words.as_ptr(), words.len());
+        let (out, n_out) = (out.as_mut_ptr(), out.len());
+        // SAFETY: 1 and 2 by the parameters' types; 3 asks nothing, since no monitor is lent.
+        unsafe { (self.write_text)(users, roles, words, n_words, out, n_out, written, place) }
     }
 
     /// The version of the library: major, minor and patch number, a byte each, the patch lowest.
