@@ -21,7 +21,7 @@
 
 /* The version of this header. oskhrein_version gives that of the library: it is to be OSKHREIN_VERSION. */
 #define OSKHREIN_VERSION_MAJOR 0
-#define OSKHREIN_VERSION_MINOR 6
+#define OSKHREIN_VERSION_MINOR 7
 #define OSKHREIN_VERSION_PATCH 0
 #define OSKHREIN_VERSION (OSKHREIN_VERSION_MAJOR * 65536u + OSKHREIN_VERSION_MINOR * 256u + OSKHREIN_VERSION_PATCH)
 
@@ -38,11 +38,13 @@ extern "C" {
 enum {
     OSKHREIN_ACCEPTED = 0,
 
-    /* Policy author. A call that answers one of these gives the fault's place too: see oskhrein_open. */
+    /* Policy author. A call that answers 1 to 4 gives the fault's place too: see oskhrein_open. */
     OSKHREIN_WORD_COUNT = 1, /* no word, or more than 31 */
     OSKHREIN_WORD = 2,       /* some word is not in the layout, names a role or user not declared, or is an empty set */
     OSKHREIN_TERM = 3,       /* the words are not exactly one term */
     OSKHREIN_UNIT = 4,       /* not or plus over a term that is no unit term */
+    OSKHREIN_OPENING = 20,   /* a text does not begin with "policy: " */
+    OSKHREIN_TEXT = 21,      /* what stands behind that is no term, or the text has more than 1,024 bytes */
 
     /* Personnel desk. */
     OSKHREIN_COUNTS = 5, /* users or roles not 1 to 16 */
@@ -62,7 +64,7 @@ enum {
 
     /* Program that calls. */
     OSKHREIN_WORKSPACE = 12, /* workspace below 8,192 words; never for a close */
-    OSKHREIN_OUTPUT = 13,    /* output shorter than the policy */
+    OSKHREIN_OUTPUT = 13,    /* output shorter than the policy, or than its text */
     OSKHREIN_CASE = 14,      /* case file malformed; no call of this header reads one */
     OSKHREIN_MONITOR = 15    /* monitor malformed: see oskhrein_event */
 };
@@ -120,7 +122,9 @@ enum {
     OSKHREIN_MAX_ACTIONS = 12,
     OSKHREIN_MAX_STATES = 16,
     OSKHREIN_MAX_TRANSITIONS = 64,
-    OSKHREIN_WORKSPACE_WORDS = 8192
+    OSKHREIN_WORKSPACE_WORDS = 8192,
+    OSKHREIN_LONGEST_TEXT = 767, /* bytes of the longest text of a policy: an output of so many is never too short */
+    OSKHREIN_MAX_TEXT = 1024     /* a text with more bytes is refused */
 };
 
 /* A configuration: the actions that each role gives (bit a for action a), the roles that each user holds (bit r for role r), and the
@@ -331,6 +335,56 @@ uint8_t oskhrein_satisfies(uint8_t users, uint8_t roles, const uint32_t *words, 
  */
 uint8_t oskhrein_normal_form(uint8_t users, uint8_t roles, const uint32_t *words, size_t n_words, uint32_t *out, size_t n_out,
                              uint8_t *place);
+
+/*
+ * Reads a policy's text, and writes the policy's words.
+ *
+ * The text is the eight bytes "policy: ", the last a space, and then one term:
+ *   all                  everyone
+ *   r2                   a role
+ *   {0,3,15}             a set: one or more users, each above the one before it
+ *   not TERM
+ *   plus TERM
+ *   (TERM or TERM)       either
+ *   (TERM both TERM)
+ *   (TERM with TERM)     together
+ *   (TERM apart TERM)
+ * Numbers are 0 to 15, without a leading zero. Nothing else stands before, between or behind: no other space, no line end. n_text counts
+ * the bytes; no NUL is looked for. A policy has one text only, that which oskhrein_write_text writes.
+ *
+ * Answers OSKHREIN_ACCEPTED, or the first that applies of
+ *   OSKHREIN_OPENING     the eight bytes are missing
+ *   OSKHREIN_TEXT        what stands behind them is not exactly one term, a number above 15 included; n_text above OSKHREIN_MAX_TEXT
+ *   OSKHREIN_COUNTS
+ *   OSKHREIN_WORD_COUNT  the term has more than 31 words
+ *   OSKHREIN_WORD        a number up to 15 that is not declared
+ *   OSKHREIN_UNIT
+ *   OSKHREIN_OUTPUT      n_out below the number of the words
+ * OSKHREIN_TERM never applies: what is read is one term.
+ *
+ * Leaves in *place the place of a policy's fault, as oskhrein_open does: a word's among the words, an operator's before its sides, not a
+ * byte's in the text. Any other answer leaves it as it was.
+ *
+ * Leaves the words at the start of out, and how many they are in *written; the rest of out is as it was. A refusal leaves *written and
+ * all of out as they were. text is only read.
+ */
+uint8_t oskhrein_read_text(uint8_t users, uint8_t roles, const char *text, size_t n_text, uint32_t *out, size_t n_out,
+                           size_t *written, uint8_t *place);
+
+/*
+ * Writes a policy's text, as oskhrein_read_text reads it. To read what was written gives the same words, and to write what was read the
+ * same text.
+ *
+ * Answers OSKHREIN_ACCEPTED, or the first that applies of OSKHREIN_COUNTS, OSKHREIN_WORD_COUNT, OSKHREIN_WORD, OSKHREIN_TERM,
+ * OSKHREIN_UNIT, OSKHREIN_OUTPUT (n_out below the number of the text's bytes, which is at most OSKHREIN_LONGEST_TEXT).
+ *
+ * Leaves in *place the place of a policy's fault, as oskhrein_open does. Any other answer leaves it as it was.
+ *
+ * Leaves the text at the start of out, without a NUL behind it, and how many bytes it has in *written; the rest of out is as it was. A
+ * refusal leaves *written and all of out as they were. words is only read.
+ */
+uint8_t oskhrein_write_text(uint8_t users, uint8_t roles, const uint32_t *words, size_t n_words, char *out, size_t n_out,
+                            size_t *written, uint8_t *place);
 
 /* The version of the library, as OSKHREIN_VERSION writes it. */
 uint32_t oskhrein_version(void);
