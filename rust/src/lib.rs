@@ -3,10 +3,11 @@
 //! A [`Monitor`] follows one run under a policy. It takes an action by a user or turns it away, lets
 //! roles be granted and withdrawn, tells who may act next, and is closed once its actions satisfy
 //! the policy; [`satisfies`] asks about a multiset of users instead, and [`normal_form`] writes a
-//! policy in its normal form. A [`SecureWorkflow`] may say besides which role gives which action, and
-//! in which order actions come.
-//! Calls that judge actions are lent a [`Workspace`], and take up to 128 KiB of stack; the status and a
-//! close judge none. Nothing is kept between calls but what the caller holds.
+//! policy in its normal form. [`read_text`] and [`write_text`] turn a policy's readable text into its
+//! words and back. A [`SecureWorkflow`] may say besides which role gives which action, and in which
+//! order actions come.
+//! Calls that judge actions are lent a [`Workspace`]; the status and a close judge none. A call takes up
+//! to 128 KiB of stack. Nothing is kept between calls but what the caller holds.
 //!
 //! Document 01 has words of its own for some of these: a monitor is its sheet, a workspace its
 //! work room, a status its standing, a multiset its bag, and users are people. Permissions and
@@ -17,19 +18,24 @@
 //! A policy is 1 to 31 words in prefix order: a word, then its sides. A [`Term`] makes them; the
 //! calls take any. The kind is in bits 24 to 31, the operand in bits 0 to 15, all else is zero.
 //!
-//! | kind | term | operand |
-//! |---|---|---|
-//! | 1 | everyone | 0 |
-//! | 2 | role | role number |
-//! | 3 | set | mask of users, not zero |
-//! | 4 | not | 0 |
-//! | 5 | plus | 0 |
-//! | 6 | either | 0 |
-//! | 7 | both | 0 |
-//! | 8 | together | 0 |
-//! | 9 | apart | 0 |
+//! | kind | term | operand | in a text |
+//! |---|---|---|---|
+//! | 1 | everyone | 0 | `all` |
+//! | 2 | role | role number | `r2` |
+//! | 3 | set | mask of users, not zero | `{0,3,15}` |
+//! | 4 | not | 0 | `not all` |
+//! | 5 | plus | 0 | `plus all` |
+//! | 6 | either | 0 | `(r0 or r1)` |
+//! | 7 | both | 0 | `(r0 both r1)` |
+//! | 8 | together | 0 | `(r0 with r1)` |
+//! | 9 | apart | 0 | `(r0 apart r1)` |
 //!
 //! The number of a word's sides goes by its kind: below 4 none, below 6 one, else two.
+//!
+//! A policy's text, which agreements print, is `policy: ` and then its term as the last column has
+//! it. Numbers are 0 to 15 without a leading zero, the users of a set ascend, and nothing else stands
+//! before, between or behind, no further space and no line end. So a policy has one text only. A
+//! [`Term`] parses from it and prints it.
 //!
 //! The fault of a refused policy has a place among its words, which the [`Refusal`] tells.
 //!
@@ -91,7 +97,7 @@ pub use event::Event;
 pub use monitor::Monitor;
 pub use permissions::Permissions;
 pub use raw::{Action, Transition, ACTION_NUMBERS, LAYOUT, MAX_ACTIONS, MAX_ROLES, MAX_STATES};
-pub use raw::{MAX_TRANSITIONS, MAX_USERS, MAX_WORDS};
+pub use raw::{LONGEST_TEXT, MAX_TEXT, MAX_TRANSITIONS, MAX_USERS, MAX_WORDS};
 pub use refusal::Refusal;
 pub use reload::ReloadFault;
 pub use secure::{SecureWorkflow, WorkflowFault};
@@ -175,4 +181,75 @@ pub fn normal_form<'a>(
     let mut place = 0;
     let answer = Calls::LINKED.normal_form(users, roles, policy, out, &mut place);
     refusal::policy_accepted(answer, place).map(|()| &out[..policy.len()])
+}
+
+/// Reads a policy's text, and gives the policy's words, which are written at the start of an output;
+/// the rest of it keeps what it had. Any bytes are answered.
+///
+/// A [`Term`] parses from a text too, where no counts are known yet.
+///
+/// # Errors
+/// The first that applies of [`Opening`](Refusal::Opening), [`Text`](Refusal::Text),
+/// [`Counts`](Refusal::Counts), [`WordCount`](Refusal::WordCount), [`Word`](Refusal::Word),
+/// [`Unit`](Refusal::Unit) and [`Output`](Refusal::Output); an output of [`MAX_WORDS`] is never too
+/// short. A number above 15 is `Text`, a lower one that is not declared `Word`. The place of a fault is
+/// that of a word, where an operator comes before its sides, not that of a byte.
+///
+/// # Example
+///
+/// ```
+/// use oskhrein::{Refusal, Term};
+///
+/// let mut out = [0; oskhrein::MAX_WORDS];
+/// let words = oskhrein::read_text(2, 2, "policy: (r0 apart r1)", &mut out)?;
+/// assert_eq!(words, Term::apart(Term::role(0)?, Term::role(1)?)?.words());
+///
+/// let mut read = |text: &str| oskhrein::read_text(2, 2, text, &mut out).map(|words| words.len());
+/// assert_eq!(read("policy: (r0 apart r2)"), Err(Refusal::Word { place: 2 }));
+/// assert_eq!(read("policy: (r0 apart r16)"), Err(Refusal::Text));
+/// assert_eq!(read("(r0 apart r1)"), Err(Refusal::Opening));
+/// # Ok::<(), Refusal>(())
+/// ```
+pub fn read_text(
+    users: u8,
+    roles: u8,
+    text: impl AsRef<[u8]>,
+    out: &mut [u32],
+) -> Result<&[u32], Refusal> {
+    let (text, mut written, mut place) = (text.as_ref(), 0, 0);
+    let answer = Calls::LINKED.read_text(users, roles, text, out, &mut written, &mut place);
+    refusal::policy_accepted(answer, place).map(|()| &out[..written])
+}
+
+/// Writes a policy's text at the start of an output, and gives it back; the rest of the output keeps
+/// what it had.
+///
+/// To read what was written gives the same words, and to write what was read the same text.
+///
+/// # Errors
+/// The first that applies of [`Counts`](Refusal::Counts), [`WordCount`](Refusal::WordCount),
+/// [`Word`](Refusal::Word), [`Term`](Refusal::Term), [`Unit`](Refusal::Unit) and
+/// [`Output`](Refusal::Output); an output of [`LONGEST_TEXT`] is never too short.
+///
+/// # Example
+///
+/// ```
+/// use oskhrein::Term;
+///
+/// let policy = Term::together(Term::set(&[3, 0])?, Term::plus(Term::everyone())?)?;
+/// let mut out = [0; oskhrein::LONGEST_TEXT];
+/// let text = oskhrein::write_text(4, 1, policy.words(), &mut out)?;
+/// assert_eq!(text, "policy: ({0,3} with plus all)");
+/// # Ok::<(), oskhrein::Refusal>(())
+/// ```
+pub fn write_text<'a>(
+    users: u8,
+    roles: u8,
+    policy: &[u32],
+    out: &'a mut [u8],
+) -> Result<&'a str, Refusal> {
+    let (mut written, mut place) = (0, 0);
+    let answer = Calls::LINKED.write_text(users, roles, policy, out, &mut written, &mut place);
+    refusal::policy_accepted(answer, place)?;
+    Ok(std::str::from_utf8(&out[..written]).expect("a text is ASCII"))
 }

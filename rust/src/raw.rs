@@ -28,6 +28,12 @@ pub use layout::{MAX_USERS, MAX_WORDS};
 /// How many words a workspace has at least.
 pub const WORKSPACE_WORDS: usize = 8192;
 
+/// The most bytes that a policy's text has: an output of so many is never too short for one.
+pub const LONGEST_TEXT: usize = 767;
+
+/// The most bytes that are read as a text. A longer one is refused, whatever it says.
+pub const MAX_TEXT: usize = 1024;
+
 /// Declares the exported functions, and with them the table of pointers to them.
 macro_rules! exported {
     ($($field:ident: $name:ident($($parameter:ident: $type:ty),* $(,)?) -> $answer:ty;)*) => {

@@ -5,8 +5,8 @@ use std::fmt;
 
 use crate::status::Status;
 
-/// Why a call was refused, by the number that document 01 or 02 gives the reason: 1 to 17, and 19.
-/// Later versions may have more.
+/// Why a call was refused, by the number that document 01 or 02 gives the reason: 1 to 17, and 19 to
+/// 21. Later versions may have more.
 ///
 /// The first four are faults of a policy, and have a [`place`](Self::place) among its words, counted
 /// from 0.
@@ -70,7 +70,7 @@ pub enum Refusal {
     /// 12: The workspace is shorter than 8,192 words. A [`Workspace`](crate::Workspace) never is, and a
     /// close needs none.
     Workspace,
-    /// 13: The output is shorter than the policy.
+    /// 13: The output is shorter than the policy, or than its text.
     Output,
     /// 14: A case file is malformed. No call of this crate reads one.
     Case,
@@ -85,6 +85,11 @@ pub enum Refusal {
     /// [`SecureWorkflow`](crate::SecureWorkflow) makes is refused only if it is for another number of
     /// roles.
     Workflow,
+    /// 20: A text does not begin with `policy: `.
+    Opening,
+    /// 21: What stands behind that is not exactly one term, or the text has more than 1,024 bytes. It
+    /// has no place, since there are no words.
+    Text,
 }
 
 impl Refusal {
@@ -108,6 +113,8 @@ impl Refusal {
         Refusal::NotAuthorized,
         Refusal::NoTransition,
         Refusal::Workflow,
+        Refusal::Opening,
+        Refusal::Text,
     ];
 
     /// The number.
@@ -131,6 +138,8 @@ impl Refusal {
             Refusal::NotAuthorized => 16,
             Refusal::NoTransition => 17,
             Refusal::Workflow => 19,
+            Refusal::Opening => 20,
+            Refusal::Text => 21,
         }
     }
 
@@ -193,7 +202,7 @@ impl Refusal {
                 "close, but not satisfied, or the workflow is in no final state"
             }
             Refusal::Workspace => "workspace below 8,192 words",
-            Refusal::Output => "output shorter than the policy",
+            Refusal::Output => "output shorter than the policy, or than its text",
             Refusal::Case => "case file malformed",
             Refusal::Monitor => "monitor malformed",
             Refusal::NotAuthorized => "no role that the user holds gives this action",
@@ -201,6 +210,11 @@ impl Refusal {
                 "the workflow has no transition for this action from its state"
             }
             Refusal::Workflow => "permissions or workflow out of form, or one without the other",
+            Refusal::Opening => "the text does not begin with `policy: `",
+            Refusal::Text => {
+                "what stands behind `policy: ` is not exactly one term, \
+                 or the text has more than 1,024 bytes"
+            }
         }
     }
 }
@@ -266,7 +280,7 @@ mod tests {
     #[test]
     fn each_refusal_has_its_number() {
         let numbers: Vec<u8> = Refusal::ALL.iter().map(|refusal| refusal.number()).collect();
-        assert_eq!(numbers, (1..=17).chain([19]).collect::<Vec<u8>>());
+        assert_eq!(numbers, (1..=17).chain(19..=21).collect::<Vec<u8>>());
         for number in 0..=u8::MAX {
             let found = Refusal::of_number(number, 0);
             assert_eq!(found.map(Refusal::number), numbers.contains(&number).then_some(number));
@@ -296,7 +310,7 @@ mod tests {
     fn every_byte_is_an_answer_or_stops() {
         for byte in 0..=u8::MAX {
             let known = |least, letters: &[u8]| {
-                (least..=17).contains(&byte) || byte == 19 || letters.contains(&byte)
+                (least..=21).contains(&byte) && byte != 18 || letters.contains(&byte)
             };
             assert_eq!(catch_unwind(|| accepted(byte)).is_ok(), known(5, &[0]));
             assert_eq!(catch_unwind(|| status(byte)).is_ok(), known(5, b"ocd"));

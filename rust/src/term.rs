@@ -1,7 +1,11 @@
-//! Policies as terms.
+//! Policies as terms, and their texts.
 
-use crate::raw::{MAX_ROLES, MAX_USERS, MAX_WORDS};
+use std::fmt;
+use std::str::FromStr;
+
+use crate::raw::{LONGEST_TEXT, MAX_ROLES, MAX_USERS, MAX_WORDS};
 use crate::refusal::Refusal;
+use crate::{read_text, write_text};
 
 const EVERYONE: u32 = 1;
 const ROLE: u32 = 2;
@@ -13,12 +17,17 @@ const BOTH: u32 = 7;
 const TOGETHER: u32 = 8;
 const APART: u32 = 9;
 
-/// A policy, put together from smaller ones.
+/// The counts with which every number that a term may have is declared.
+const USERS: u8 = MAX_USERS as u8;
+const ROLES: u8 = MAX_ROLES as u8;
+
+/// A policy, put together from smaller ones, parsed from its text, or made of its words.
 ///
 /// Its [`words`](Self::words) are in the layout, exactly one term, at most 31, and not and plus stand
 /// over unit terms only. So a call refuses them only if they name a user or role that is not
 /// declared. A part that cannot be made is refused as the call would refuse that part alone, at word
-/// 0.
+/// 0. A text or words are refused as [`read_text`] and [`write_text`] refuse them where 16 users and 16
+/// roles are declared.
 ///
 /// A unit term is one that is made without plus, together and apart, and is about one action. A user
 /// without any role meets none, whatever it is.
@@ -40,6 +49,22 @@ const APART: u32 = 9;
 /// assert_eq!(Term::plus(duties), Err(Refusal::Unit { place: 0 }));
 /// # Ok(())
 /// # }
+/// ```
+///
+/// The same as an agreement prints it, and read again:
+///
+/// ```
+/// # use oskhrein::{Refusal, Term};
+/// # let duties = Term::apart(Term::role(0)?, Term::role(1)?)?;
+/// # let others = Term::plus(Term::not(Term::set(&[3])?)?)?;
+/// # let policy = Term::either(duties, Term::together(duties, others)?)?;
+/// let text = "policy: ((r0 apart r1) or ((r0 apart r1) with plus not {3}))";
+/// assert_eq!(policy.to_string(), text);
+/// assert_eq!(text.parse(), Ok(policy));
+/// assert_eq!(Term::try_from(policy.words()), Ok(policy));
+/// assert_eq!("policy: r16".parse::<Term>(), Err(Refusal::Text));
+/// assert_eq!("policy: plus (r0 apart r1)".parse::<Term>(), Err(Refusal::Unit { place: 0 }));
+/// # Ok::<(), Refusal>(())
 /// ```
 #[derive(Clone, Copy, Debug, PartialEq, Eq, Hash)]
 pub struct Term {
@@ -161,6 +186,15 @@ impl Term {
         Term { words, length: 1, unit: true }
     }
 
+    /// The term that these words are, which a call has accepted. Where not and plus stand over unit
+    /// terms only, a term is a unit term if it has neither plus nor together nor apart in it.
+    fn accepted(words: &[u32]) -> Term {
+        let unit = words.iter().all(|word| ![PLUS, TOGETHER, APART].contains(&(word >> 24)));
+        let mut term = Term { words: [0; MAX_WORDS], length: words.len(), unit };
+        term.words[..words.len()].copy_from_slice(words);
+        term
+    }
+
     /// An operator and its sides.
     fn of(kind: u32, sides: &[Term], unit: bool) -> Result<Term, Refusal> {
         let mut term = Term { unit, ..Term::leaf(kind, 0) };
@@ -179,5 +213,40 @@ impl Term {
         } else {
             Err(Refusal::Unit { place: 0 })
         }
+    }
+}
+
+/// Parses a policy's text, where any user and role from 0 to 15 may be named.
+impl FromStr for Term {
+    type Err = Refusal;
+
+    /// # Errors
+    /// As [`read_text`], for 16 users and 16 roles: the first that applies of
+    /// [`Opening`](Refusal::Opening), [`Text`](Refusal::Text), [`WordCount`](Refusal::WordCount) and
+    /// [`Unit`](Refusal::Unit).
+    fn from_str(text: &str) -> Result<Term, Refusal> {
+        read_text(USERS, ROLES, text, &mut [0; MAX_WORDS]).map(Term::accepted)
+    }
+}
+
+/// The policy's text.
+impl fmt::Display for Term {
+    fn fmt(&self, f: &mut fmt::Formatter<'_>) -> fmt::Result {
+        let mut text = [0; LONGEST_TEXT];
+        f.pad(write_text(USERS, ROLES, self.words(), &mut text).map_err(|_| fmt::Error)?)
+    }
+}
+
+/// The policy that words are, such as those of a monitor, where any user and role from 0 to 15 may be
+/// named.
+impl TryFrom<&[u32]> for Term {
+    type Error = Refusal;
+
+    /// # Errors
+    /// As [`write_text`], for 16 users and 16 roles: the first that applies of
+    /// [`WordCount`](Refusal::WordCount), [`Word`](Refusal::Word), [`Term`](Refusal::Term) and
+    /// [`Unit`](Refusal::Unit).
+    fn try_from(words: &[u32]) -> Result<Term, Refusal> {
+        write_text(USERS, ROLES, words, &mut [0; LONGEST_TEXT]).map(|_| Term::accepted(words))
     }
 }

@@ -4,7 +4,8 @@ mod common;
 
 use common::{open_l, POLICY_F};
 use oskhrein::raw::{self, Calls};
-use oskhrein::{normal_form, satisfies, Event, Monitor, Refusal, Workspace, MAX_WORDS};
+use oskhrein::{normal_form, satisfies, write_text, Event, Monitor, Refusal, Workspace};
+use oskhrein::{LONGEST_TEXT, MAX_WORDS};
 
 const EVERYONE: u32 = 0x01000000;
 const NOT: u32 = 0x04000000;
@@ -35,6 +36,7 @@ fn refused(policy: &[u32]) -> Refusal {
         Monitor::open(2, 2, policy, &[1, 2]).err(),
         satisfies(2, 2, policy, &[1, 2], &[0; 16], &mut workspace).err(),
         normal_form(2, 2, policy, &mut [0; MAX_WORDS]).err(),
+        write_text(2, 2, policy, &mut [0; LONGEST_TEXT]).err(),
     ];
     assert!(refusals.iter().all(|own| *own == refusals[0]), "{refusals:?} of {policy:08x?}");
     refusals[0].unwrap_or_else(|| panic!("{policy:08x?} is accepted"))
@@ -148,6 +150,7 @@ fn no_other_refusal_has_a_place() {
     without_place(satisfies(2, 2, &good, &[1, 2], &counts, &mut workspace), 7);
     without_place(satisfies(16, 2, &good, &[1; 16], &counts, &mut workspace), 8);
     without_place(normal_form(3, 3, &POLICY_F, &mut [0; 9]), 13);
+    without_place(write_text(3, 3, &POLICY_F, &mut [0; 9]), 13);
     let mut monitor = open_l();
     without_place(monitor.event_word(0, &mut workspace), 7);
     without_place(monitor.event(Event::Action { user: 2, number: 0 }, &mut workspace), 9);
