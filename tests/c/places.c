@@ -27,6 +27,7 @@ static const uint8_t BYTES[16] = {0};
 
 static uint32_t workspace[OSKHREIN_WORKSPACE_WORDS];
 static uint32_t out[OSKHREIN_MAX_WORDS];
+static char text[OSKHREIN_LONGEST_TEXT];
 
 /* The calls that read a policy, with two users and two roles, and nothing else at fault that is looked for before. */
 static uint8_t opened(const uint32_t *words, size_t n_words, uint8_t *place)
@@ -45,12 +46,18 @@ static uint8_t written(const uint32_t *words, size_t n_words, uint8_t *place)
     return oskhrein_normal_form(2, 2, words, n_words, out, OSKHREIN_MAX_WORDS, place);
 }
 
+static uint8_t as_text(const uint32_t *words, size_t n_words, uint8_t *place)
+{
+    size_t length = 0;
+    return oskhrein_write_text(2, 2, words, n_words, text, OSKHREIN_LONGEST_TEXT, &length, place);
+}
+
 /* Each of them gives this number and this place for a policy, whatever the byte held, and writes nothing beside it. */
 static void refused(const char *what, const uint32_t *words, size_t n_words, uint8_t code, uint8_t place)
 {
-    static uint8_t (*const calls[])(const uint32_t *, size_t, uint8_t *) = {opened, tested, written};
+    static uint8_t (*const calls[])(const uint32_t *, size_t, uint8_t *) = {opened, tested, written, as_text};
     static const uint8_t befores[] = {0xa5, 0, 31};
-    for (size_t i = 0; i < 3; i++) {
+    for (size_t i = 0; i < 4; i++) {
         for (size_t j = 0; j < 3; j++) {
             uint8_t before = befores[j];
             uint8_t bytes[] = {before, before, before};
