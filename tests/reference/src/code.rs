@@ -30,7 +30,7 @@ pub const CLOSED: Code = 10;
 pub const NOT_SATISFIED: Code = 11;
 /// The workspace has fewer than 8,192 words.
 pub const WORKSPACE_SHORT: Code = 12;
-/// The output is shorter than the policy.
+/// The output is shorter than the policy, or than its text.
 pub const OUTPUT_SHORT: Code = 13;
 /// The case file is malformed.
 pub const CASE_MALFORMED: Code = 14;
@@ -42,3 +42,8 @@ pub const NOT_AUTHORIZED: Code = 16;
 pub const NO_TRANSITION: Code = 17;
 /// Permissions and workflow are not both or neither given, or one of them is not as it must be.
 pub const SECURE: Code = 19;
+/// A text does not begin with the eight bytes `policy: `.
+pub const OPENING: Code = 20;
+/// What stands behind the opening bytes of a text is not one term, or the text has more than 1,024
+/// bytes.
+pub const TEXT: Code = 21;

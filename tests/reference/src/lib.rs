@@ -6,6 +6,7 @@
 //!
 //! - [`policy`]: terms, reading policy words, the normal form;
 //! - [`place`]: the place of a policy's fault;
+//! - [`text`]: policies as readable text;
 //! - [`search`]: satisfied and possible, by search on lists;
 //! - [`event`]: event words;
 //! - [`secure`]: permissions and workflow;
@@ -40,5 +41,6 @@ pub mod raw;
 pub mod search;
 pub mod secure;
 pub mod selfcheck;
+pub mod text;
 mod words;
 pub mod workspace;

@@ -76,7 +76,7 @@ mod tests {
 
     #[test]
     fn other_numbers_have_no_place() {
-        for code in [0].into_iter().chain(5..=19) {
+        for code in [0].into_iter().chain(5..=21) {
             assert_eq!(place_of(code, 2, 3, &[NOT, PLUS, 0]), None);
         }
     }
