@@ -7,6 +7,7 @@
 //! - [`faults`]: policies with faults at known places;
 //! - [`instances`]: raw instances, well formed and malformed in each way that number 15 lists;
 //! - [`statuses`]: letters of the status, words of kind 4, and runs in which the letter comes and goes;
+//! - [`texts`]: texts of policies, also damaged ones;
 //! - [`calls`]: inputs for single calls, with outputs and workspaces of every length.
 
 pub mod calls;
@@ -18,6 +19,7 @@ pub mod random;
 pub mod secure;
 pub mod statuses;
 pub mod terms;
+pub mod texts;
 
 pub use random::Random;
 

@@ -68,15 +68,22 @@ pub fn policy_input(random: &mut Random) -> PolicyInput {
 
 /// The policies of all edge cases, each with outputs that are too short, long enough and longer.
 pub fn policy_edges() -> Vec<(String, PolicyInput)> {
+    edges_around(|_, _, words| words.len())
+}
+
+/// The policies of all edge cases, each with outputs about the length that it is given.
+pub(super) fn edges_around(
+    length: impl Fn(usize, usize, &[u32]) -> usize,
+) -> Vec<(String, PolicyInput)> {
     let mut found = Vec::new();
     for (name, bytes) in edges::all() {
-        let Ok(case) = read_case(&bytes) else {
+        let Ok(Case { users, roles, policy: words, .. }) = read_case(&bytes) else {
             continue;
         };
-        let length = case.policy.len();
+        let (users, roles) = (users.into(), roles.into());
+        let length = length(users, roles, &words);
         for output in [0, length.saturating_sub(1), length, length + 3] {
-            let (users, roles) = (case.users.into(), case.roles.into());
-            let input = PolicyInput { users, roles, words: case.policy.clone(), output };
+            let input = PolicyInput { users, roles, words: words.clone(), output };
             found.push((format!("{name}, output of {output}"), input));
         }
     }

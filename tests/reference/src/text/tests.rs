@@ -3,6 +3,7 @@
 use super::*;
 use crate::examples::POLICY_F;
 use crate::generate::terms::{self, Style};
+use crate::generate::texts::edges::{longest, nots, NO_TERMS};
 use crate::generate::Random;
 use crate::policy::build;
 use crate::words::{ALL, APART, BOTH, EITHER, NOT, PLUS, TOGETHER};
@@ -41,12 +42,6 @@ fn write(words: &[u32]) -> String {
     let count = write_text(MOST, MOST, words, &mut output).expect("a policy");
     assert!(output[count..].iter().all(|byte| *byte == 0xa5));
     String::from_utf8(output[..count].to_vec()).expect("a text")
-}
-
-/// Sixteen sets of all users, parted by apart.
-fn longest() -> Term {
-    let everybody = || Term::Set((0..MOST).collect());
-    (1..MOST).fold(everybody(), |term, _| Term::join(Operator::Apart, everybody(), term))
 }
 
 #[test]
@@ -115,19 +110,6 @@ fn without_the_opening_it_is_20() {
     }
 }
 
-/// No terms, parted by `|`: for a number, for a space or a line end, for a word, for a side.
-const NO_TERMS: [&str; 4] = [
-    "r|r00|r07|r16|r20|r100|r-1|r+1|r 1|{}|{00}|{01}|{16}|{0,16}|{1,0}|{0,0}|{0,}|{,0}|{,}|{0,,1}|\
-     {0, 1}|{ 0}|{0 }|{0 1}|{0|0}|{0,1|{r0}|{+1}|{all}|0|7|{99999999999999999999}|{3,1,2}|{2,10,9}",
-    "|  all| all|all |all\n|all\r\n|all\0|\tall|not  all|not\tall|notall|plusall|(all  or all)|\
-     (all or  all)|( all or all)|(all or all )|(all or all) |(all\tor all)|(allor all)|(all orall)",
-    "All|ALL|al|alll|all.|R1|role 1|Not all|NOT all|Plus all|not|not |plus|plus |not not |(all, all)|\
-     (all Or all)|(all and all)|(all either all)|(all together all)|(all or) |all\u{e9}",
-    "all all|all or all|(all)|((all or all))|()|(|)|(all or|(all or )|(all or all|( or all)|( or )|\
-     (all or all))|(all all)|(all or all or all)|(all or all with all)|(all or (all)|(not all)|\
-     not (all)|(all not all)|(all or not )|[all or all]|or all all|(all apart all)all",
-];
-
 #[test]
 fn what_is_no_term_is_21() {
     for rest in NO_TERMS.iter().flat_map(|list| list.split('|')) {
@@ -142,13 +124,6 @@ fn of_two_bytes_10_are_terms_and_of_three_17() {
     let ascii = (0..1u32 << 21).map(|bits| [bits >> 14, bits >> 7 & 127, bits & 127]);
     let terms = ascii.filter(|bytes| term_of(&bytes.map(|byte| byte as u8)).is_some());
     assert_eq!(terms.count(), 1 + 6 + 10, "all, r10 to r15, {{0}} to {{9}}");
-}
-
-/// Nots over a term of one word, so many bytes long, of which the opening takes eight.
-fn nots(bytes: usize) -> String {
-    let rest = bytes - OPENING.len();
-    let leaf = ["r0", "all", "{10}", "{0,1}"][(rest - 2) % 4];
-    "not ".repeat((rest - leaf.len()) / 4) + leaf
 }
 
 #[test]
