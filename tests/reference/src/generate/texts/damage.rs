@@ -19,16 +19,18 @@ pub enum Damage {
 }
 
 impl Damage {
-    /// The text with this damage at a place; where it wants another byte, with this one.
+    /// The text with this damage at a place; where it wants another byte, with this one. Behind the
+    /// last byte there is none, so that an insertion alone alters something.
     fn done(self, text: &[u8], place: usize, byte: u8) -> Vec<u8> {
-        let (before, own, behind) = (&text[..place], text[place], &text[place + 1..]);
-        let middle: &[u8] = match self {
-            Damage::Replaced => &[byte],
-            Damage::Deleted => &[],
-            Damage::Inserted => &[byte, own],
-            Damage::Doubled => &[own, own],
+        let (before, rest) = text.split_at(place);
+        let (own, behind) = rest.split_at(rest.len().min(1));
+        let middle = match self {
+            Damage::Replaced => vec![byte],
+            Damage::Deleted => vec![],
+            Damage::Inserted => [&[byte], own].concat(),
+            Damage::Doubled => own.repeat(2),
         };
-        [before, middle, behind].concat()
+        [before, &middle, behind].concat()
     }
 }
 
@@ -71,23 +73,30 @@ fn others(own: u8) -> Vec<u8> {
     [BYTES, &near].concat().into_iter().filter(|byte| *byte != own).collect()
 }
 
-/// Every damage at a place of a text.
+/// Every damage at a place of a text; behind its last byte, every insertion.
 fn at(text: &[u8], place: usize) -> Vec<(Damage, Vec<u8>)> {
-    let own = text[place];
-    let mut tried = vec![(Damage::Deleted, own), (Damage::Doubled, own)];
-    for byte in others(own) {
-        tried.extend([(Damage::Replaced, byte), (Damage::Inserted, byte)]);
+    let mut tried = Vec::new();
+    match text.get(place) {
+        Some(own) => {
+            tried.extend([(Damage::Deleted, *own), (Damage::Doubled, *own)]);
+            for byte in others(*own) {
+                tried.extend([(Damage::Replaced, byte), (Damage::Inserted, byte)]);
+            }
+        }
+        None => tried.extend(BYTES.iter().map(|byte| (Damage::Inserted, *byte))),
     }
     let done = |(damage, byte): (Damage, u8)| (damage, damage.done(text, place, byte));
     tried.into_iter().map(done).collect()
 }
 
-/// Every damage at every place of these texts; in turn all users and roles are declared, and four.
+/// Every damage of the opening before one term, and of each of these terms at every place; in turn all
+/// users and roles are declared, and four.
 pub fn all() -> Vec<TextInput> {
     let mut found = Vec::new();
-    for base in BASES {
+    for (number, base) in BASES.iter().enumerate() {
         let text = [OPENING, base.as_bytes()].concat();
-        for (damage, text) in (0..text.len()).flat_map(|place| at(&text, place)) {
+        let first = if number == 0 { 0 } else { OPENING.len() };
+        for (damage, text) in (first..=text.len()).flat_map(|place| at(&text, place)) {
             let (users, roles) = [(MOST_USERS, MOST_ROLES), (4, 4)][found.len() / 2 % 2];
             let damage = Some(damage);
             found.push(TextInput { users, roles, text, output: MOST_WORDS, damage });
@@ -96,12 +105,9 @@ pub fn all() -> Vec<TextInput> {
     found
 }
 
-/// One random damage of a text; none where it has no byte.
+/// One random damage of a text.
 pub fn random(random: &mut Random, text: &[u8]) -> Vec<u8> {
-    if text.is_empty() {
-        return vec![];
-    }
-    let place = random.below(text.len());
+    let place = random.below(text.len() + 1);
     random.pick(&at(text, place)).1
 }
 
@@ -119,12 +125,13 @@ mod tests {
         for text in [&b"r12"[..], b"r1", b"R12"] {
             assert!(texts.iter().all(|other| other != text), "{}", text.escape_ascii());
         }
+        assert!(at(b"r1", 2).contains(&(Damage::Inserted, b"r15".to_vec())));
     }
 
     #[test]
     fn a_damaged_text_is_read_only_as_the_term_whose_text_it_is() {
         let inputs = all();
-        assert!(inputs.len() > 20_000);
+        assert!(inputs.len() > 15_000);
         for TextInput { text, .. } in inputs {
             let Ok(term) = read_alone(&text) else {
                 continue;

@@ -173,6 +173,7 @@ fn orders() -> Vec<NamedText> {
         ("21, behind an undeclared role", 3, "policy: (r9 with r07)", 31),
         ("21, behind an undeclared user", 3, "policy: ({4} with {1,0})", 31),
         ("21, behind a not over a with", 3, "policy: not (r0 with r1", 31),
+        ("21, a byte behind a not over a with", 3, "policy: not (r0 with r1) ", 31),
         ("21, a byte behind an undeclared role", 3, "policy: r9 ", 0),
         ("21, an undeclared role behind a wrong number", 3, "policy: (r16 with r9)", 31),
         ("5, and 1, 2, 4 and 13", 0, &many, 0),
