@@ -6,6 +6,7 @@ mod left;
 mod multisets;
 mod normal_forms;
 mod openings;
+mod texts;
 
 use oskhrein::raw::{Calls, Monitor};
 use reference::casefile::Case;
@@ -88,11 +89,13 @@ pub fn compare(seed: u64, count: usize) -> Result<Report, String> {
     let (opened, refused) = openings::compare(&library, seed, count);
     let tested = multisets::compare(&library, seed, count);
     let written = normal_forms::compare(&library, seed, count);
-    for Reader { call, faults, .. } in [opened, tested, written] {
+    let (texts, back, tried_texts) = texts::compare(&library, seed, count);
+    for Reader { call, faults, .. } in [opened, tested, written].into_iter().chain(texts) {
         calls.push(call);
         kinds.push(faults.seen());
     }
     kinds.push(refused);
+    kinds.extend(tried_texts);
     let (events, tried) = events::compare(&library, seed, count);
     calls.extend(events);
     kinds.extend(tried);
@@ -104,6 +107,7 @@ pub fn compare(seed: u64, count: usize) -> Result<Report, String> {
         report.groups.push(call.group);
         report.seen.push(call.seen);
     }
+    report.groups.push(back);
     report.seen.extend(kinds);
     Ok(report)
 }

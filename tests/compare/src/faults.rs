@@ -53,6 +53,9 @@ const KINDS: [Kind; 24] = [
     ("5 and 4", 5, |policy, _| policy.code() == 4),
 ];
 
+/// The kinds that words which are one term cannot have, beside those of 3.
+const NOT_OF_ONE_TERM: [&str; 4] = ["1 for no word", "2 and 3", "2 and 3 and 4", "5 and 3"];
+
 impl Policy<'_> {
     /// The same counts with other words.
     fn with<'a>(&self, words: &'a [u32]) -> Policy<'a> {
@@ -103,6 +106,13 @@ impl Faults {
     /// None yet; where all are wanted, each must occur.
     pub fn new(name: &str, all_wanted: bool) -> Faults {
         let wanted = KINDS.iter().filter(|_| all_wanted).map(|(name, _, _)| *name);
+        Faults { seen: Seen::kinds(&format!("faults in {name}"), wanted) }
+    }
+
+    /// None yet; each must occur that words which are one term can have.
+    pub fn of_one_term(name: &str) -> Faults {
+        let names = KINDS.iter().filter(|(_, code, _)| *code != 3).map(|(name, _, _)| *name);
+        let wanted = names.filter(|name| !NOT_OF_ONE_TERM.contains(name));
         Faults { seen: Seen::kinds(&format!("faults in {name}"), wanted) }
     }
 

@@ -21,6 +21,7 @@ mod refusals;
 mod report;
 mod secure;
 mod statuses;
+mod texts;
 
 use std::process::ExitCode;
 
