@@ -4,6 +4,7 @@ use std::ffi::OsString;
 use std::path::PathBuf;
 
 use crate::quote::quoted;
+use crate::tokens::policy_text;
 use crate::words::Language;
 
 /// What the program can do.
@@ -15,15 +16,23 @@ usage: case VERB [INPUT] [-o OUTPUT]
   run          runs a text or a case file: for each event its place, its
                number, the status, the event, who may act then (with a
                workflow, for each action), and what the number says
-  words c      prints a policy's words as an array for C, and the bytes of
-               permissions and workflow if there are any
+  words c      prints a policy's text, its words as an array for C, and the
+               bytes of permissions and workflow if there are any
   words rust   prints them as arrays for Rust
-  normal       prints a policy's normal form
+  normal       prints the text of a policy's normal form, and its words
 
 INPUT is a file, else standard input; OUTPUT a file, else standard output.
 words and normal take a text, which needs users, roles and policy only, or a
-case file. Of a refused policy run, words and normal show the text, with a mark
-below the word at fault. docs/POLICIES.md says how a text is written.
+case file. They also take a policy's own text alone, from a file, or on the
+command line in the place of INPUT, and then declare 16 users and 16 roles:
+
+  case normal 'policy: ((r2 apart r0) apart r1)'
+
+In a text such a policy is one line. The blanks around it and a comment behind
+it are the line's; all else is read as the library reads it. show prints a
+policy in this form if it is accepted. Of a refused one run, words and normal
+show the text, with a mark below the word at fault. docs/POLICIES.md says how a
+text is written.
 
 Exit status: 0 if all is well; 1 if the input is faulty or refused, or cannot
 be read, or the output cannot be written; 2 for a wrong command line.
@@ -51,10 +60,17 @@ pub enum Verb {
 pub struct Command {
     /// What is to be done.
     pub verb: Verb,
-    /// The file to read; else standard input.
+    /// The file to read, or a policy; else standard input.
     pub input: Option<PathBuf>,
     /// The file to write; else standard output.
     pub output: Option<PathBuf>,
+}
+
+impl Command {
+    /// The policy that stands in the place of the file to read, if one does: it begins with `policy:`.
+    pub fn policy(&self) -> Option<&str> {
+        self.input.as_deref()?.to_str().filter(|text| policy_text(text).is_some())
+    }
 }
 
 /// Reads a command line.

@@ -3,7 +3,7 @@
 //! its normal form. `case --help` lists the verbs.
 //!
 //! A text has five parts, each begun by its name, and three more that it need not have; `#` begins a
-//! comment.
+//! comment, and blanks play no part at the end of a line.
 //!
 //! ```text
 //! users 3
@@ -37,17 +37,19 @@
 //! and workflow stand together or not at all. In their place `none` is an empty part, `raw` any bytes.
 //!
 //! A policy is a list of words in prefix order, in 01's names. Parentheses after a word hold its
-//! sides and are checked; they may be left out. `revoke` may also be called `withdraw`. What a text
-//! names must be declared, and nothing may be missing or too many; `word 0x0a000000` is any policy
-//! or event word, so that refused policies and damaged events can be written too. A text of the
-//! single part `bytes` is any file, malformed or not. Where a policy is refused, it is shown with a
-//! mark below the word at fault.
+//! sides and are checked; they may be left out. Or it is one line of the text that 02 gives it,
+//! `policy: (r0 with (r2 or not {0,1}))`, which the library reads; an accepted policy is shown so.
+//! `revoke` may also be called `withdraw`. What a text names must be declared, and nothing may be
+//! missing or too many; `word 0x0a000000` is any policy or event word, so that refused policies and
+//! damaged events can be written too. A text of the single part `bytes` is any file, malformed or
+//! not. Where a policy is refused, it is shown with a mark below the word at fault.
 
 #![forbid(unsafe_code)]
 
 mod arguments;
 mod declared;
 mod file;
+mod line;
 mod mark;
 mod monitor;
 mod names;
@@ -99,8 +101,9 @@ fn complain(message: &str) {
 
 /// Does what is to be done. Whether all is well with what was read.
 fn obey(command: &Command) -> Result<bool, String> {
-    let input = match command.verb {
-        Verb::Help => vec![],
+    let input = match (command.verb, command.policy()) {
+        (Verb::Help, _) => vec![],
+        (_, Some(policy)) => policy.into(),
         _ => streams::input(command.input.as_deref())?,
     };
     let (printed, well) = answer(command.verb, &input)?;
@@ -122,7 +125,7 @@ fn answer(verb: Verb, input: &[u8]) -> Result<(Vec<u8>, bool), String> {
         Verb::Words(language) => Ok((arrays(language, input)?.into(), true)),
         Verb::Normal => {
             let (case, normal) = accepted_policy(input)?;
-            Ok(((show::term(&normal, case.counts(), 0) + "\n").into(), true))
+            Ok((show::accepted(&normal, case.counts()).into(), true))
         }
     }
 }

@@ -48,7 +48,7 @@ fn marked(text: &str, place: usize, length: usize) -> String {
 }
 
 /// A line with a mark.
-fn mark(column: usize, length: usize) -> String {
+pub fn mark(column: usize, length: usize) -> String {
     format!("{}{}\n", " ".repeat(column), "^".repeat(length))
 }
 

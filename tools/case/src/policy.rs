@@ -1,6 +1,8 @@
-//! The policy of a text: words in prefix order, whose sides may stand in parentheses.
+//! The policy of a text: words in prefix order, whose sides may stand in parentheses; or one line of
+//! document 02's text.
 
 use crate::declared::Declared;
+use crate::line;
 use crate::monitor::MOST_WORDS;
 use crate::names::{sides, term_kind, ROLE, SET};
 use crate::quote::quoted;
@@ -35,8 +37,24 @@ struct Reader<'a> {
 /// The policy in a part of a text.
 ///
 /// # Errors
-/// The first fault: something undeclared, missing or too many, or no policy word.
+/// The first fault: something undeclared, missing or too many, or no policy word; or the library's
+/// refusal of a line.
 pub fn read(part: &Part, declared: &Declared) -> Result<Policy, Fault> {
+    let (policy, rest) = match part.policy_text {
+        Some(text) => (line::read(text, part.line, declared.counts())?, &part.tokens[..]),
+        None => term(part, declared)?,
+    };
+    match rest {
+        [] => Ok(policy),
+        [token, ..] => {
+            let more = quoted(token.text);
+            fault(token.line, format!("{more} stands behind the end of the policy"))
+        }
+    }
+}
+
+/// The first term in a part of a text, and what stands behind it.
+fn term<'a>(part: &'a Part, declared: &'a Declared) -> Result<(Policy, &'a [Token<'a>]), Fault> {
     let (tokens, line) = (&part.tokens, part.line);
     let read = Policy { words: vec![], lines: vec![] };
     let mut reader = Reader { tokens, line, declared, read, open: vec![] };
@@ -44,13 +62,7 @@ pub fn read(part: &Part, declared: &Declared) -> Result<Policy, Fault> {
     while reader.wants_side()? {
         reader.word()?;
     }
-    match reader.next() {
-        None => Ok(reader.read),
-        Some(token) => {
-            let more = quoted(token.text);
-            fault(token.line, format!("{more} stands behind the end of the policy"))
-        }
-    }
+    Ok((reader.read, reader.tokens))
 }
 
 impl<'a> Reader<'a> {

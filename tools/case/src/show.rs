@@ -2,7 +2,7 @@
 
 use crate::declared::Declared;
 use crate::file::{self, Case, Secure};
-use crate::monitor::MOST_WORDS;
+use crate::monitor::{self, MOST_WORDS};
 use crate::names::{event_word, is_one_term, members, sides, term_word, Counts};
 use crate::plan::{self, Workflow};
 use crate::text;
@@ -39,10 +39,14 @@ pub fn file(bytes: &[u8]) -> Shown {
     Shown { text, malformed: None }
 }
 
-/// The text of a case.
+/// The text of a case. A policy that is accepted has a text of its own, a line; one that is refused is
+/// shown by its words.
 fn case(case: &Case) -> String {
-    let mut text = format!("users {}\nroles {}\npolicy\n", case.users, case.roles);
-    text += &policy(&case.policy, case.counts());
+    let mut text = format!("users {}\nroles {}\n", case.users, case.roles);
+    text += &match monitor::write_text(&case.policy, case.counts()) {
+        Ok(line) => line + "\n",
+        Err(_) => "policy\n".to_string() + &policy(&case.policy, case.counts()),
+    };
     text += "grants\n";
     for (user, row) in case.grants.iter().enumerate() {
         text += &format!("  {user}:{}\n", members(*row));
@@ -112,6 +116,13 @@ pub fn policy(words: &[u32], counts: Counts) -> String {
         format!("{indent}{}\n", term_word(*word, counts))
     };
     words.iter().zip(depths(words)).map(line).collect()
+}
+
+/// An accepted policy as its own text, and below it, as a comment, by its words.
+pub fn accepted(words: &[u32], counts: Counts) -> String {
+    let term = term(words, counts, 0);
+    let lines: String = term.lines().map(|line| format!("# {line}\n")).collect();
+    monitor::text_of(words, counts) + "\n" + &lines
 }
 
 /// The words of a term; its lines behind the first begin in this column or further right.

@@ -2,7 +2,8 @@
 
 use crate::declared::{Declared, Names, MOST_ACTION};
 use crate::file::{self, Case, Secure, MOST_EVENTS};
-use crate::names::{event_kind, ACTION, CLOSE};
+use crate::monitor::{MOST_ROLES, MOST_USERS};
+use crate::names::{event_kind, Counts, ACTION, CLOSE};
 use crate::policy;
 use crate::quote::quoted;
 use crate::secure;
@@ -162,6 +163,17 @@ pub fn write(text: &str) -> Result<Vec<u8>, Fault> {
     }))
 }
 
+/// What a text declares whose policy alone is asked for: a policy's text by itself has no counts, and
+/// is taken with the most.
+fn declared_alone<'a>(parts: &Parts<'a>) -> Result<Declared<'a>, Fault> {
+    let text = parts.get("policy").and_then(|part| part.policy_text);
+    if text.is_some() && parts.count() == 1 {
+        let counts = Counts { users: MOST_USERS as u8, roles: MOST_ROLES as u8 };
+        return Ok(Declared::numbered(counts));
+    }
+    Declared::of(parts)
+}
+
 /// The counts and the policy of a text, whatever else it says or does not say.
 ///
 /// # Errors
@@ -171,7 +183,7 @@ pub fn policy_alone(text: &str) -> Result<Case, Fault> {
     if let Some(bytes) = raw(&parts)? {
         return file::read(&bytes).or_else(|reason| fault(1, reason));
     }
-    let declared = Declared::of(&parts)?;
+    let declared = declared_alone(&parts)?;
     let counts = declared.counts();
     let policy = policy::read(parts.need("policy")?, &declared)?.words;
     Ok(Case { users: counts.users, roles: counts.roles, policy, ..Case::default() })
@@ -186,7 +198,7 @@ pub fn secure_alone(text: &str) -> Result<Option<Secure>, Fault> {
     if parts.get("bytes").is_some() {
         return Ok(None);
     }
-    secure::read(&parts, &Declared::of(&parts)?)
+    secure::read(&parts, &declared_alone(&parts)?)
 }
 
 /// What a text adds to its case file.
@@ -206,7 +218,7 @@ pub fn source(text: &str) -> Result<Option<Source<'_>>, Fault> {
     if parts.get("bytes").is_some() {
         return Ok(None);
     }
-    let declared = Declared::of(&parts)?;
+    let declared = declared_alone(&parts)?;
     let lines = policy::read(parts.need("policy")?, &declared)?.lines;
     Ok(Some(Source { lines, declared }))
 }

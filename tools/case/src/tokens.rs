@@ -2,6 +2,7 @@
 
 use std::fmt;
 
+use crate::monitor::OPENING;
 use crate::quote::quoted;
 
 /// What is wrong with a text, and in which line.
@@ -54,6 +55,8 @@ fn is_sign(character: char) -> bool {
 pub struct Part<'a> {
     /// The line of its name.
     pub line: usize,
+    /// What stands in that line, where it is a policy's text.
+    pub policy_text: Option<&'a str>,
     /// What follows.
     pub tokens: Vec<Token<'a>>,
 }
@@ -100,9 +103,17 @@ impl<'a> Parts<'a> {
     }
 }
 
+/// The policy's text that a line is, if it begins with `policy:`. The blanks around it are the line's.
+pub fn policy_text(line: &str) -> Option<&str> {
+    let text = line.trim_start();
+    match text.strip_prefix(OPENING) {
+        Some(term) => Some(&text[..OPENING.len() + term.trim_end().len()]),
+        None => text.starts_with(OPENING.trim_end()).then(|| text.trim_end()),
+    }
+}
+
 /// The tokens of a line: signs stand for themselves, all else is parted by blanks.
 fn tokens(line: usize, text: &str) -> Vec<Token<'_>> {
-    let text = text.split('#').next().unwrap_or_default();
     let mut found = Vec::new();
     for piece in text.split_whitespace() {
         for piece in piece.split_inclusive(is_sign) {
@@ -122,6 +133,7 @@ pub fn parts(text: &str) -> Result<Parts<'_>, Fault> {
     let mut found: [Option<Part>; PARTS.len()] = Default::default();
     let mut current = None;
     for (line, text) in (1..).zip(text.lines()) {
+        let text = text.split('#').next().unwrap_or_default();
         let mut tokens = tokens(line, text);
         let Some(first) = tokens.first().copied() else {
             continue;
@@ -130,9 +142,10 @@ pub fn parts(text: &str) -> Result<Parts<'_>, Fault> {
             if found[place].is_some() {
                 return fault(line, format!("`{}` stands here a second time", first.text));
             }
-            found[place] = Some(Part { line, tokens: vec![] });
+            let policy_text = policy_text(text);
+            tokens.drain(..if policy_text.is_some() { tokens.len() } else { 1 });
+            found[place] = Some(Part { line, policy_text, tokens: vec![] });
             current = Some(place);
-            tokens.remove(0);
         }
         match current.and_then(|place| found[place].as_mut()) {
             Some(part) => part.tokens.extend(tokens),

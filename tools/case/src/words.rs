@@ -1,5 +1,6 @@
 //! A policy's words as an array in a program, and the bytes of permissions and workflow.
 
+use crate::monitor;
 use crate::names::{members, sides, term_word, Counts};
 use crate::plan::{row_bytes, Workflow};
 use crate::show::transition;
@@ -13,14 +14,16 @@ pub enum Language {
     Rust,
 }
 
-/// The array: a word a line, each with its name, which is indented by the terms around it.
+/// The text of an accepted policy and the array: a word a line, each with its name, which is indented by
+/// the terms around it.
 pub fn array(language: Language, words: &[u32], counts: Counts) -> String {
     let line = |(word, depth): (&u32, usize)| {
         let name = " ".repeat(2 * depth) + &term_word(*word, counts);
         language.line(&format!("{word:#010x}"), &name)
     };
     let lines: String = words.iter().zip(depths(words)).map(line).collect();
-    language.array("policy", 32, words.len(), &lines)
+    let text = language.comment(&monitor::text_of(words, counts));
+    text + "\n" + &language.array("policy", 32, words.len(), &lines)
 }
 
 /// The arrays of permissions, a role a line, and of a workflow: its states, then a transition a line.
@@ -60,9 +63,14 @@ impl Language {
 
     /// A line of an array, with what its numbers are.
     fn line(self, numbers: &str, what: &str) -> String {
+        format!("    {numbers}, {}\n", self.comment(what))
+    }
+
+    /// A comment.
+    fn comment(self, what: &str) -> String {
         match self {
-            Language::C => format!("    {numbers}, /* {what} */\n"),
-            Language::Rust => format!("    {numbers}, // {what}\n"),
+            Language::C => format!("/* {what} */"),
+            Language::Rust => format!("// {what}"),
         }
     }
 }

@@ -36,6 +36,23 @@ fn verbs_and_files() {
 }
 
 #[test]
+fn a_policy_may_stand_for_a_file() {
+    let policy = |input: &str| {
+        let command = parse(&["normal".into(), input.into()]).expect("a command");
+        command.policy().map(String::from)
+    };
+    for text in ["policy: (r0 apart r1)", "policy:r0", "policy:", "  policy: all\n"] {
+        assert_eq!(policy(text).as_deref(), Some(text));
+    }
+    for file in ["policy", "policy.txt", "./policy: all", "my policy: all", "users 1\npolicy: all"]
+    {
+        assert_eq!(policy(file), None, "{file}");
+    }
+    let command = parse(&["normal".into()]).expect("a command");
+    assert_eq!(command.policy(), None);
+}
+
+#[test]
 fn wrong_command_lines_say_why() {
     let is = |line: &str, expected: &str| assert_eq!(read(line), Err(expected.to_string()));
     is("", "a verb is missing");

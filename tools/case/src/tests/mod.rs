@@ -3,6 +3,7 @@
 mod arguments;
 mod faults;
 mod files;
+mod lines;
 mod marks;
 mod mutations;
 mod plans;

@@ -109,7 +109,8 @@ fn five_pairs_come_back() {
         with_secure("permissions\n  0:\n  1:\nworkflow raw\n  01 02 00 00 00 05 00 00 05 00\n"),
     ] {
         let bytes = text::write(&text).expect(&text);
-        assert_eq!(show::file(&bytes).text, text);
+        let shown = text.replace("policy\n  apart(role 0, role 1)", "policy: (r0 apart r1)");
+        assert_eq!(show::file(&bytes).text, shown);
     }
 }
 
@@ -361,7 +362,8 @@ static const uint8_t workflow[13] = {
 #[test]
 fn a_policy_is_read_whatever_stands_beside_it() {
     let faulty = with_secure("permissions\n  x\n");
-    assert_eq!(printed(Verb::Normal, faulty.as_bytes()), "apart(role 0, role 1)\n");
+    let expected = "policy: (r0 apart r1)\n# apart(role 0, role 1)\n";
+    assert_eq!(printed(Verb::Normal, faulty.as_bytes()), expected);
 }
 
 #[test]

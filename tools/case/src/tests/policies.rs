@@ -17,6 +17,7 @@ fn printed(verb: Verb, text: &str) -> Result<String, String> {
 fn words_are_arrays() {
     let case = policy_alone("users 2\nroles 2\npolicy apart(not role 1, set 0 1)").expect("text");
     let c = "\
+/* policy: (not r1 apart {0,1}) */
 static const uint32_t policy[4] = {
     0x09000000, /* apart */
     0x04000000, /*   not */
@@ -26,6 +27,7 @@ static const uint32_t policy[4] = {
 ";
     assert_eq!(array(Language::C, &case.policy, case.counts()), c);
     let rust = "\
+// policy: (not r1 apart {0,1})
 const POLICY: [u32; 4] = [
     0x09000000, // apart
     0x04000000, //   not
@@ -38,32 +40,45 @@ const POLICY: [u32; 4] = [
 
 #[test]
 fn normal_forms_are_readable() {
-    let expected =
-        "together(\n  plus everyone,\n  apart(role 0, either(role 2, apart(role 0, role 0))))\n";
+    let expected = "\
+policy: (plus all with (r0 apart (r2 or (r0 apart r0))))
+# together(
+#   plus everyone,
+#   apart(role 0, either(role 2, apart(role 0, role 0))))
+";
     assert_eq!(printed(Verb::Normal, LISTING_TEXT).as_deref(), Ok(expected));
+    assert_eq!(printed(Verb::Normal, expected).as_deref(), Ok(expected));
 }
 
 #[test]
 fn equal_policies_have_one_normal_form() {
     let normal = |policy: &str| printed(Verb::Normal, &with_policy(policy));
     let one = normal("apart(role 2, apart(role 0, role 1))");
-    assert_eq!(one.as_deref(), Ok("apart(role 0, apart(role 1, role 2))\n"));
+    let expected = "policy: (r0 apart (r1 apart r2))\n# apart(role 0, apart(role 1, role 2))\n";
+    assert_eq!(one.as_deref(), Ok(expected));
     assert_eq!(one, normal("apart(apart(role 1, role 0), role 2)"));
     assert_ne!(one, normal("apart(role 2, together(role 0, role 1))"));
 }
 
 #[test]
 fn not_is_never_taken_away() {
-    for policy in ["not not everyone", "apart(not not not set 3, plus not not role 0)"] {
+    for (policy, text) in [
+        ("not not everyone", "not not all"),
+        (
+            "apart(not not not set 3, plus not not role 0)",
+            "(not not not {3} apart plus not not r0)",
+        ),
+    ] {
         let normal = printed(Verb::Normal, &with_policy(policy));
-        assert_eq!(normal, Ok(format!("{policy}\n")));
+        assert_eq!(normal, Ok(format!("policy: {text}\n# {policy}\n")));
     }
 }
 
 #[test]
 fn the_counts_and_the_policy_are_enough() {
     let policy = "users 1\nroles 1\npolicy plus everyone\n";
-    assert_eq!(printed(Verb::Normal, policy).as_deref(), Ok("plus everyone\n"));
+    let expected = "policy: plus all\n# plus everyone\n";
+    assert_eq!(printed(Verb::Normal, policy).as_deref(), Ok(expected));
     let missing = printed(Verb::Normal, "users 1\nroles 1\n");
     assert_eq!(missing, Err("line 2: the part `policy` is missing".to_string()));
 }

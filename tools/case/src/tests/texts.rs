@@ -10,7 +10,11 @@ use crate::{file, show, text};
 #[test]
 fn listing_l_is_written_and_shown() {
     assert_eq!(text::write(LISTING_TEXT), Ok(LISTING_L.to_vec()));
-    assert_eq!(show::file(&LISTING_L).text, LISTING_TEXT);
+    let shown = show::file(&LISTING_L).text;
+    let (first, rest) = LISTING_TEXT.split_once("policy\n").expect("it has one");
+    let (_, rest) = rest.split_once("grants\n").expect("it has them");
+    let line = "policy: ((r0 apart (r2 or (r0 apart r0))) with plus all)";
+    assert_eq!(shown, format!("{first}{line}\ngrants\n{rest}"));
 }
 
 #[test]
@@ -84,10 +88,15 @@ fn what_only_bytes_say_is_readable_all_the_same() {
 
 #[test]
 fn long_terms_are_broken_into_lines() {
+    // a policy that is refused, since an accepted one is shown as one line
     let chain = "either(role 0, ".repeat(12) + "role 1" + &")".repeat(12);
+    let chain = chain.replacen("role 0", "not plus role 0", 1);
     let text = show::file(&text::write(&with_policy(&chain)).expect("it is written")).text;
     assert!(text.lines().all(|line| line.len() <= 72), "{text}");
-    assert!(text.contains("  either(\n    role 0,\n    either(\n      role 0,\n"), "{text}");
+    assert!(
+        text.contains("  either(\n    not plus role 0,\n    either(\n      role 0,\n"),
+        "{text}"
+    );
 }
 
 #[test]
