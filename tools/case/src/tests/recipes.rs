@@ -211,6 +211,26 @@ fn together_is_not_apart() {
 }
 
 #[test]
+fn counter_with_pricer_or_editor() {
+    means("counter-with-pricer-or-editor", |roles, users| match users {
+        [one, other] => roles.has(*one, 0) && (roles.has(*other, 1) || roles.has(*other, 2)),
+        _ => false,
+    });
+}
+
+#[test]
+fn every_form_of_a_policy() {
+    means("every-form-of-a-policy", |roles, users| match users {
+        [_, _] | [_] | [] => false,
+        [one, named, rest @ ..] => {
+            let others = |user: &usize| roles.any(*user) && ![0, 3, *one].contains(user);
+            let meets = roles.has(*one, 0) || roles.has(*one, 2);
+            meets && *named == 3 && roles.any(3) && rest.iter().all(others)
+        }
+    });
+}
+
+#[test]
 fn asks_for_one_more() {
     means("asks-for-one-more", |roles, users| match users {
         [one, other, rest @ ..] => {
