@@ -30,9 +30,8 @@ command line in the place of INPUT, and then declare 16 users and 16 roles:
 
 In a text such a policy is one line. The blanks around it and a comment behind
 it are the line's; all else is read as the library reads it. show prints a
-policy in this form if it is accepted. Of a refused one run, words and normal
-show the text, with a mark below the word at fault. docs/POLICIES.md says how a
-text is written.
+policy in this form if it is accepted. One that is refused is told with a mark
+below the word at fault. docs/POLICIES.md says how a text is written.
 
 Exit status: 0 if all is well; 1 if the input is faulty or refused, or cannot
 be read, or the output cannot be written; 2 for a wrong command line.
