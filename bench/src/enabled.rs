@@ -2,7 +2,7 @@
 
 use crate::candidates::{Candidate, Proved};
 use crate::cases::{self, Case};
-use crate::report::{ratio, time};
+use crate::table::{columns, largest, line, noise, of_earlier, ratio, time};
 use crate::timing::{self, Timed};
 use crate::{agree, Builds};
 
@@ -47,11 +47,9 @@ impl Row {
         agree(case, &mut all);
         let event: Box<dyn Candidate> = Box::new(Proved::new(&action, &builds.linked));
         all.insert(0, event);
-        let mut times = timing::compare(&mut all).into_iter();
-        let mut next = || times.next();
-        let mut one = || next().expect("a case has at least six candidates");
-        let [event, trials, search, search_fills, proved, tuned] = [(); 6].map(|()| one());
-        let (name, kinds, earlier) = (case.name().join(" | "), case.kinds(), next());
+        let (times, earlier) = timing::compare_named(&mut all);
+        let [event, trials, search, search_fills, proved, tuned] = times;
+        let (name, kinds) = (case.name().join(" | "), case.kinds());
         Row { name, kinds, event, trials, search, search_fills, proved, tuned, earlier }
     }
 
@@ -68,21 +66,15 @@ impl Row {
         cells.extend([proved.over(trials), proved.over(tuned)].map(ratio));
         cells.extend([search_fills.over(proved), search.over(proved)].map(ratio));
         if earlier {
-            let own = self.earlier.as_ref();
-            let none = || "-".to_string();
-            cells.push(own.map_or_else(none, time));
-            cells.push(own.map_or_else(none, |own| ratio(proved.over(own))));
+            cells.extend(of_earlier(self.earlier.as_ref(), |own| proved.over(own)));
         }
-        println!("| {} | {} |", self.name, cells.join(" | "));
+        line(&self.name, &cells);
     }
 }
 
 /// The largest number among some rows, and the name of its row.
-fn largest<'a>(rows: impl Iterator<Item = &'a Row>, number: fn(&Row) -> f64) -> String {
-    let worst = rows.max_by(|x, y| number(x).total_cmp(&number(y)));
-    worst.map_or_else(String::new, |row| {
-        format!("{:.2} ({})", number(row), row.name.replace(" | ", ", "))
-    })
+fn largest_of<'a>(rows: impl Iterator<Item = &'a Row>, number: fn(&Row) -> f64) -> String {
+    largest(rows.map(|row| (&row.name[..], number(row))))
 }
 
 /// Prints what stands below the rows.
@@ -91,30 +83,27 @@ fn foot(rows: &[Row]) {
     let few = || rows.iter().filter(|row| row.kinds <= most);
     let many = || rows.iter().filter(|row| row.kinds > most);
     println!();
-    println!("Largest a/event, at most {most} kinds: {}.", largest(few(), Row::events));
+    println!("Largest a/event, at most {most} kinds: {}.", largest_of(few(), Row::events));
     let above = few().filter(|row| row.events() > goal).count();
     println!("Rows of these above {goal}: {above} of {}.", few().count());
-    println!("Largest a/event, more kinds: {}.", largest(many(), Row::events));
+    println!("Largest a/event, more kinds: {}.", largest_of(many(), Row::events));
     let above = many().filter(|row| row.events() > ALL_KINDS).count();
     println!("Rows of these above {ALL_KINDS}: {above} of {}.", many().count());
     let of_trials = |row: &Row| row.proved.over(&row.trials);
-    println!("Largest a/trials: {}.", largest(rows.iter(), of_trials));
+    println!("Largest a/trials: {}.", largest_of(rows.iter(), of_trials));
     let over_tuned = |row: &Row| row.proved.over(&row.tuned);
-    println!("Largest a/c: {}.", largest(rows.iter(), over_tuned));
+    println!("Largest a/c: {}.", largest_of(rows.iter(), over_tuned));
     let slower = rows.iter().filter(|row| row.search_fills.over(&row.proved) < 1.0).count();
     println!("Rows in which (a) is slower than (b): {slower} of {}.", rows.len());
-    let noise = rows.iter().map(|row| row.proved.noise()).fold(1.0, f64::max);
-    println!("Noise: the middle turn of (a) took up to {noise:.2} times its best one.");
+    noise(rows.iter().map(|row| &row.proved));
 }
 
 /// Prints the table.
 pub fn print(builds: &Builds) {
     let earlier = builds.earlier.is_some();
     println!("{HEAD}");
-    let (more, lines) = if earlier { (" (e) | a/e |", "---|---|") } else { ("", "") };
-    let times = "(a) | event | trials | (b) | (b') | (c) | a/event | a/trials | a/c | b/a | b'/a |";
-    println!("| call | policy | words | taken | users | {times}{more}");
-    println!("|{}{lines}", "---|".repeat(16));
+    let times = "(a) | event | trials | (b) | (b') | (c) | a/event | a/trials | a/c | b/a | b'/a";
+    columns("taken", times, earlier.then_some("a/e"));
     let mut rows = Vec::new();
     for case in cases::enabled() {
         let row = Row::new(builds, &case);

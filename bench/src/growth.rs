@@ -2,7 +2,7 @@
 
 use crate::candidates::{Candidate, Proved};
 use crate::cases::{made, Case, ACTING, APART, TOGETHER};
-use crate::report::ratio;
+use crate::table::ratio;
 use crate::timing::{self, Timed};
 use crate::{agree, Builds};
 

@@ -27,6 +27,7 @@ mod library;
 mod refused;
 mod report;
 mod status;
+mod table;
 mod timing;
 mod tuned;
 mod workflow;
@@ -36,7 +37,6 @@ use std::process::ExitCode;
 use candidates::{Candidate, Proved, Searched, Tried, Tuned};
 use cases::{Case, Job};
 use library::Library;
-use report::Row;
 
 /// What the program can do.
 const USAGE: &str = "usage: bench
@@ -114,18 +114,8 @@ fn agree(case: &Case, all: &mut [Box<dyn Candidate + '_>]) {
 
 /// Prints all tables and how the cost grows.
 fn print(builds: &Builds) {
-    report::head(builds.earlier.as_ref());
-    let mut rows = Vec::new();
-    let cases = cases::calls();
-    timing::warm_up(&mut builds.candidates(&cases[0]));
-    for case in cases {
-        let mut all = builds.candidates(&case);
-        agree(&case, &mut all);
-        let row = Row::new(&case, timing::compare(&mut all));
-        row.print();
-        rows.push(row);
-    }
-    report::foot(&rows);
+    timing::warm_up(&mut builds.candidates(&cases::calls()[0]));
+    report::print(builds);
     growth::print(builds);
     enabled::print(builds);
     refused::print(builds);

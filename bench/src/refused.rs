@@ -4,7 +4,7 @@
 use crate::candidates::{Candidate, Proved, Searched, NO_PLACE};
 use crate::cases::{self, Case};
 use crate::library::{Library, Stored};
-use crate::report::{ratio, time};
+use crate::table::{columns, line, of_earlier, ratio, time};
 use crate::timing::{self, Timed};
 use crate::tuned::Monitor;
 use crate::{agree, Builds};
@@ -118,24 +118,22 @@ impl Row {
         all.extend(builds.main_candidates(case));
         agree(case, &mut all);
         all.insert(0, Box::new(Proved::new(&accepted, &builds.linked)));
-        let mut times = timing::compare(&mut all).into_iter();
-        let mut next = || times.next();
-        let mut one = || next().expect("a case has at least five candidates");
-        let [accepted, numbers, search, proved, tuned] = [(); 5].map(|()| one());
-        let (name, earlier) = (case.name().join(" | "), next());
+        let (times, earlier) = timing::compare_named(&mut all);
+        let [accepted, numbers, search, proved, tuned] = times;
+        let name = case.name().join(" | ");
         Row { name, accepted, numbers, search, proved, tuned, earlier }
     }
 
     /// Prints the row.
-    fn print(&self) {
+    fn print(&self, earlier: bool) {
         let Row { accepted, numbers, search, proved, tuned, .. } = self;
         let mut cells = [proved, accepted, numbers, search, tuned].map(time).to_vec();
         cells.extend([accepted, numbers, tuned].map(|other| ratio(proved.over(other))));
         cells.push(ratio(search.over(proved)));
-        if let Some(earlier) = &self.earlier {
-            cells.extend([time(earlier), ratio(proved.over(earlier))]);
+        if earlier {
+            cells.extend(of_earlier(self.earlier.as_ref(), |own| proved.over(own)));
         }
-        println!("| {} | {} |", self.name, cells.join(" | "));
+        line(&self.name, &cells);
     }
 }
 
@@ -143,12 +141,10 @@ impl Row {
 pub fn print(builds: &Builds) {
     println!("{HEAD}");
     let earlier = builds.earlier.is_some();
-    let (more, lines) = if earlier { (" (e) | a/e |", "---|---|") } else { ("", "") };
-    let times = "(a) | accepted | numbers | (b) | (c) | a/accepted | a/numbers | a/c | b/a |";
-    println!("| call | policy | words | actions | users | {times}{more}");
-    println!("|{}{lines}", "---|".repeat(14));
+    let times = "(a) | accepted | numbers | (b) | (c) | a/accepted | a/numbers | a/c | b/a";
+    columns("actions", times, earlier.then_some("a/e"));
     for case in cases::refused() {
-        Row::new(builds, &case).print();
+        Row::new(builds, &case).print(earlier);
     }
 }
 

@@ -1,11 +1,13 @@
-//! The table.
+//! The table of all calls.
 
-use crate::cases::Case;
+use crate::cases::{self, Case};
 use crate::library::Library;
-use crate::timing::Timed;
+use crate::table::{columns, largest, line, noise, of_earlier, ratio, time};
+use crate::timing::{self, Timed};
+use crate::{agree, Builds};
 
 /// A case and the times of its candidates.
-pub struct Row {
+struct Row {
     name: String,
     proved: Timed,
     tuned: Timed,
@@ -15,53 +17,27 @@ pub struct Row {
     earlier: Option<Timed>,
 }
 
-/// A time with its unit.
-pub fn time(timed: &Timed) -> String {
-    let mark = if timed.is_slow() { "\\*" } else { "" };
-    match timed.best() {
-        best if best < 1e4 => format!("{best:.0} ns{mark}"),
-        best if best < 1e7 => format!("{:.1} µs{mark}", best / 1e3),
-        best => format!("{:.1} ms{mark}", best / 1e6),
-    }
-}
-
-/// A ratio.
-pub fn ratio(ratio: f64) -> String {
-    if ratio < 10.0 {
-        format!("{ratio:.2}")
-    } else {
-        format!("{ratio:.0}")
-    }
-}
-
 impl Row {
-    /// The row of a case; times in the order of its candidates.
-    pub fn new(case: &Case, times: Vec<Timed>) -> Row {
-        let mut times = times.into_iter();
-        let mut next = || times.next();
-        let mut one = || next().expect("a case has at least five candidates");
-        let [by_term, search, search_fills, proved, tuned] = [(); 5].map(|()| one());
-        let (name, earlier) = (case.name().join(" | "), next());
+    /// Measures a case.
+    fn new(builds: &Builds, case: &Case) -> Row {
+        let mut all = builds.candidates(case);
+        agree(case, &mut all);
+        let (times, earlier) = timing::compare_named(&mut all);
+        let [by_term, search, search_fills, proved, tuned] = times;
+        let name = case.name().join(" | ");
         Row { name, proved, tuned, by_term, search, search_fills, earlier }
     }
 
     /// Prints the row.
-    pub fn print(&self) {
-        let mut cells = vec![
-            time(&self.proved),
-            time(&self.search_fills),
-            time(&self.search),
-            time(&self.tuned),
-            time(&self.by_term),
-            ratio(self.proved.over(&self.tuned)),
-            ratio(self.search_fills.over(&self.proved)),
-            ratio(self.search.over(&self.proved)),
-            ratio(self.by_term.over(&self.proved)),
-        ];
-        if let Some(earlier) = &self.earlier {
-            cells.extend([time(earlier), ratio(self.proved.over(earlier))]);
+    fn print(&self, earlier: bool) {
+        let Row { proved, tuned, by_term, search, search_fills, .. } = self;
+        let mut cells = [proved, search_fills, search, tuned, by_term].map(time).to_vec();
+        cells.push(ratio(proved.over(tuned)));
+        cells.extend([search_fills, search, by_term].map(|other| ratio(other.over(proved))));
+        if earlier {
+            cells.extend(of_earlier(self.earlier.as_ref(), |own| proved.over(own)));
         }
-        println!("| {} | {} |", self.name, cells.join(" | "));
+        line(&self.name, &cells);
     }
 
     /// How many nanoseconds the library takes longer than tuned code.
@@ -96,26 +72,22 @@ actions, and judges none. Nor does a status.
 ";
 
 /// Prints what stands over the rows.
-pub fn head(earlier: Option<&Library>) {
+fn head(earlier: Option<&Library>) {
     println!("{HEAD}");
     if let Some(earlier) = earlier {
         println!("- (e) an earlier build of the library, version {}", earlier.version());
     }
     println!("{WORDS}");
-    let (more, lines) = earlier.map_or(("", ""), |_| (" (e) | a/e |", "---|---|"));
-    let times = "(a) | (b) | (b') | (c) | (d) | a/c | b/a | b'/a | d/a |";
-    println!("| call | policy | words | actions | users | {times}{more}");
-    println!("|{}{lines}", "---|".repeat(14));
+    let times = "(a) | (b) | (b') | (c) | (d) | a/c | b/a | b'/a | d/a";
+    columns("actions", times, earlier.map(|_| "a/e"));
 }
 
 /// Prints what stands below the rows.
-pub fn foot(rows: &[Row]) {
+fn foot(rows: &[Row]) {
     let count = |which: &dyn Fn(&Row) -> bool| rows.iter().filter(|row| which(row)).count();
     let over_tuned = |row: &Row| row.proved.over(&row.tuned);
     println!();
-    if let Some(worst) = rows.iter().max_by(|x, y| over_tuned(x).total_cmp(&over_tuned(y))) {
-        println!("Largest a/c: {:.2} ({}).", over_tuned(worst), worst.name.replace(" | ", ", "));
-    }
+    println!("Largest a/c: {}.", largest(rows.iter().map(|row| (&row.name[..], over_tuned(row)))));
     let above = count(&|row| over_tuned(row) > 1.25);
     let far = count(&|row| over_tuned(row) > 1.25 && row.behind() > 100.0);
     let all = rows.len();
@@ -126,6 +98,17 @@ pub fn foot(rows: &[Row]) {
     println!("Rows in which (a) is slower than (b): {slower}.");
     let slower = count(&|row| row.search.over(&row.proved) < 1.0);
     println!("Rows in which (a) is slower than (b'): {slower}.");
-    let noise = rows.iter().map(|row| row.proved.noise()).fold(1.0, f64::max);
-    println!("Noise: the middle turn of (a) took up to {noise:.2} times its best one.");
+    noise(rows.iter().map(|row| &row.proved));
+}
+
+/// Prints the table.
+pub fn print(builds: &Builds) {
+    head(builds.earlier.as_ref());
+    let mut rows = Vec::new();
+    for case in cases::calls() {
+        let row = Row::new(builds, &case);
+        row.print(builds.earlier.is_some());
+        rows.push(row);
+    }
+    foot(&rows);
 }

@@ -2,7 +2,7 @@
 
 use crate::candidates::{Candidate, Proved, Searched};
 use crate::cases::{self, Case, Job};
-use crate::report::{ratio, time};
+use crate::table::{columns, largest, line, noise, of_earlier, ratio, time};
 use crate::timing::{self, Timed};
 use crate::{agree, Builds};
 
@@ -43,12 +43,8 @@ impl Row {
         all.extend(builds.main_candidates(case));
         agree(case, &mut all);
         all.insert(0, Box::new(Proved::new(&tested, &builds.linked)));
-        let mut times = timing::compare(&mut all).into_iter();
-        let mut next = || times.next();
-        let mut one = || next().expect("a case has at least five candidates");
-        let [test, kept, search, proved, tuned] = [(); 5].map(|()| one());
-        let counts = matches!(case.job, Job::Status);
-        let (name, earlier) = (case.name().join(" | "), next());
+        let ([test, kept, search, proved, tuned], earlier) = timing::compare_named(&mut all);
+        let (name, counts) = (case.name().join(" | "), matches!(case.job, Job::Status));
         Row { name, counts, test, kept, search, proved, tuned, earlier }
     }
 
@@ -64,22 +60,16 @@ impl Row {
         cells.extend([test, tuned].map(|other| ratio(proved.over(other))));
         cells.extend([kept, search].map(|other| ratio(other.over(proved))));
         if earlier {
-            let own = self.earlier.as_ref();
-            let none = || "-".to_string();
-            cells.push(own.map_or_else(none, time));
-            cells.push(own.map_or_else(none, |own| ratio(own.over(proved))));
+            cells.extend(of_earlier(self.earlier.as_ref(), |own| own.over(proved)));
         }
-        println!("| {} | {} |", self.name, cells.join(" | "));
+        line(&self.name, &cells);
     }
 }
 
 /// Prints the row of these that takes the most tests of 15.
 fn print_worst(call: &str, rows: &[&Row]) {
-    let worst = rows.iter().max_by(|x, y| x.over_test().total_cmp(&y.over_test()));
-    if let Some(worst) = worst {
-        let name = worst.name.replace(" | ", ", ");
-        println!("Largest a/15 of a {call}: {:.2} ({name}).", worst.over_test());
-    }
+    let worst = largest(rows.iter().map(|row| (&row.name[..], row.over_test())));
+    println!("Largest a/15 of a {call}: {worst}.");
 }
 
 /// Prints what stands below the rows.
@@ -90,18 +80,15 @@ fn foot(rows: &[Row]) {
     let above = statuses.iter().filter(|row| row.over_test() > GOAL).count();
     println!("Rows of these above {GOAL}: {above} of {}.", statuses.len());
     print_worst("close", &closes);
-    let noise = rows.iter().map(|row| row.proved.noise()).fold(1.0, f64::max);
-    println!("Noise: the middle turn of (a) took up to {noise:.2} times its best one.");
+    noise(rows.iter().map(|row| &row.proved));
 }
 
 /// Prints the table.
 pub fn print(builds: &Builds) {
     println!("{HEAD}");
     let earlier = builds.earlier.is_some();
-    let (more, lines) = if earlier { (" (e) | e/a |", "---|---|") } else { ("", "") };
-    let times = "(a) | 15 | (b) | (b') | (c) | a/15 | a/c | b/a | b'/a |";
-    println!("| call | policy | words | actions | users | {times}{more}");
-    println!("|{}{lines}", "---|".repeat(14));
+    let times = "(a) | 15 | (b) | (b') | (c) | a/15 | a/c | b/a | b'/a";
+    columns("actions", times, earlier.then_some("e/a"));
     let mut rows = Vec::new();
     for case in cases::by_status() {
         let row = Row::new(builds, &case);

@@ -80,6 +80,15 @@ pub fn warm_up(candidates: &mut [Box<dyn Candidate + '_>]) {
     }
 }
 
+/// Times so many candidates, and that of an earlier build if it stands behind them.
+pub fn compare_named<const N: usize>(
+    candidates: &mut [Box<dyn Candidate + '_>],
+) -> ([Timed; N], Option<Timed>) {
+    let mut times = compare(candidates).into_iter();
+    let named = [(); N].map(|()| times.next().expect("each of them is timed"));
+    (named, times.next())
+}
+
 /// Times all candidates.
 pub fn compare(candidates: &mut [Box<dyn Candidate + '_>]) -> Vec<Timed> {
     let runs: Vec<u32> = candidates.iter_mut().map(|c| runs_a_turn(c.as_mut())).collect();

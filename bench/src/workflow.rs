@@ -2,7 +2,7 @@
 
 use crate::candidates::Proved;
 use crate::cases::{self, Case};
-use crate::report::{ratio, time};
+use crate::table::{columns, largest, line, noise, of_earlier, ratio, time};
 use crate::timing::{self, Timed};
 use crate::{agree, Builds};
 
@@ -48,12 +48,10 @@ impl Row {
             all.extend(builds.main_candidates(&bare).drain(2..));
         }
         all.insert(0, Box::new(Proved::new(&bare, &builds.linked)));
-        let mut times = timing::compare(&mut all).into_iter();
-        let mut next = || times.next();
-        let mut one = || next().expect("a case has at least five candidates");
-        let [bare, search, search_fills, proved, tuned] = [(); 5].map(|()| one());
+        let (times, earlier) = timing::compare_named(&mut all);
+        let [bare, search, search_fills, proved, tuned] = times;
         let counts = case.what == "event: action" && case.taken.len() >= GOAL.0;
-        let (name, earlier) = (case.name().join(" | "), next());
+        let name = case.name().join(" | ");
         Row { name, counts, bare, search, search_fills, proved, tuned, earlier }
     }
 
@@ -69,12 +67,9 @@ impl Row {
         cells.extend([bare, tuned].map(|other| ratio(proved.over(other))));
         cells.extend([search_fills, search].map(|other| ratio(other.over(proved))));
         if earlier {
-            let own = self.earlier.as_ref();
-            let none = || "-".to_string();
-            cells.push(own.map_or_else(none, time));
-            cells.push(own.map_or_else(none, |own| ratio(proved.over(own))));
+            cells.extend(of_earlier(self.earlier.as_ref(), |own| proved.over(own)));
         }
-        println!("| {} | {} |", self.name, cells.join(" | "));
+        line(&self.name, &cells);
     }
 }
 
@@ -82,29 +77,20 @@ impl Row {
 fn foot(rows: &[Row]) {
     let (taken, most) = GOAL;
     let counted: Vec<&Row> = rows.iter().filter(|row| row.counts).collect();
-    let worst = counted.iter().max_by(|x, y| x.over_bare().total_cmp(&y.over_bare()));
+    let worst = largest(counted.iter().map(|row| (&row.name[..], row.over_bare())));
     println!();
-    if let Some(worst) = worst {
-        let name = worst.name.replace(" | ", ", ");
-        println!(
-            "Largest a/bare of an action with {taken} or more taken: {:.2} ({name}).",
-            worst.over_bare()
-        );
-    }
+    println!("Largest a/bare of an action with {taken} or more taken: {worst}.");
     let above = counted.iter().filter(|row| row.over_bare() > most).count();
     println!("Rows of these above {most}: {above} of {}.", counted.len());
-    let noise = rows.iter().map(|row| row.proved.noise()).fold(1.0, f64::max);
-    println!("Noise: the middle turn of (a) took up to {noise:.2} times its best one.");
+    noise(rows.iter().map(|row| &row.proved));
 }
 
 /// Prints the table.
 pub fn print(builds: &Builds) {
     println!("{HEAD}");
     let earlier = builds.earlier.is_some();
-    let (more, lines) = if earlier { (" (e) | a/e |", "---|---|") } else { ("", "") };
-    let times = "(a) | bare | (b) | (b') | (c) | a/bare | a/c | b/a | b'/a |";
-    println!("| call | policy | words | actions | users | {times}{more}");
-    println!("|{}{lines}", "---|".repeat(14));
+    let times = "(a) | bare | (b) | (b') | (c) | a/bare | a/c | b/a | b'/a";
+    columns("actions", times, earlier.then_some("a/e"));
     let mut rows = Vec::new();
     for case in cases::ordered() {
         let row = Row::new(builds, &case);
