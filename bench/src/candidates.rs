@@ -1,12 +1,13 @@
 //! The programs that are compared. Each keeps its input in its own form and does one whole job a
 //! run.
 
-use oskhrein::Refusal;
+use oskhrein::{Refusal, MAX_WORDS};
 use reference::monitor::Kept;
 use reference::multiset;
 use reference::place::place_of;
 use reference::raw::{RawAction, RawInstance};
 use reference::search::Search;
+use reference::text;
 
 use crate::cases::{numbered, Case, Job};
 use crate::library::{Library, Stored};
@@ -36,6 +37,32 @@ pub trait Candidate {
     /// places.
     fn place(&self) -> Option<u8> {
         Some(NO_PLACE)
+    }
+
+    /// What reading or writing a text left, if the program does that.
+    fn converted(&self) -> Option<&Converted> {
+        None
+    }
+}
+
+/// What reading or writing a text leaves: how many words or bytes were written last, and the output for
+/// bytes. That for words is in the workspace.
+#[derive(Debug, PartialEq, Eq)]
+pub struct Converted {
+    written: usize,
+    bytes: [u8; 1024],
+}
+
+impl Converted {
+    /// Nothing was written.
+    fn new() -> Converted {
+        Converted { written: 0, bytes: [0; 1024] }
+    }
+
+    /// Keeps how many were written, and answers 0.
+    fn note(&mut self, written: usize) -> u8 {
+        self.written = written;
+        0
     }
 }
 
@@ -143,20 +170,22 @@ pub struct Proved<'a> {
     workspace: Box<Workspace>,
     users: u16,
     place: u8,
+    converted: Converted,
 }
 
 impl<'a> Proved<'a> {
     /// With the input of a case.
     pub fn new(case: &'a Case, library: &'a Library) -> Proved<'a> {
         let start = library.stored(&from_raw(&start(case)));
-        let (users, place) = (0, NO_PLACE);
-        Proved { case, library, start, now: start, workspace: Workspace::new(), users, place }
+        let (workspace, users, place) = (Workspace::new(), 0, NO_PLACE);
+        let converted = Converted::new();
+        Proved { case, library, start, now: start, workspace, users, place, converted }
     }
 }
 
 impl Candidate for Proved<'_> {
     fn run(&mut self) -> u8 {
-        let Proved { case, library, start, now, workspace, users: named, place } = self;
+        let Proved { case, library, start, now, workspace, users: named, place, converted } = self;
         let (users, roles) = (case.users(), case.roles);
         let (policy, rows) = (&case.policy.words[..], &case.policy.rows[..]);
         let workspace = &mut workspace.0[..];
@@ -174,6 +203,14 @@ impl Candidate for Proved<'_> {
             }
             Job::NormalForm => calls.normal_form(users, roles, policy, workspace, place),
             Job::Open => library.open(now, (users, roles), policy, rows, case.given(), place),
+            Job::Read(text) => {
+                let out = &mut workspace[..MAX_WORDS];
+                calls.read_text(users, roles, text, out, &mut converted.written, place)
+            }
+            Job::Write => {
+                let Converted { written, bytes } = converted;
+                calls.write_text(users, roles, policy, bytes, written, place)
+            }
         }
     }
 
@@ -193,6 +230,10 @@ impl Candidate for Proved<'_> {
 
     fn place(&self) -> Option<u8> {
         self.library.tells_places().then_some(self.place)
+    }
+
+    fn converted(&self) -> Option<&Converted> {
+        Some(&self.converted)
     }
 }
 
@@ -249,13 +290,15 @@ pub struct Searched<'a> {
     fills: bool,
     users: u16,
     place: u8,
+    converted: Converted,
 }
 
 impl<'a> Searched<'a> {
     /// With the input of a case.
     pub fn new(case: &'a Case, fills: bool) -> Searched<'a> {
-        let (start, workspace) = (start(case), Workspace::new());
-        Searched { case, start, now: start, workspace, fills, users: 0, place: NO_PLACE }
+        let (start, workspace, converted) = (start(case), Workspace::new(), Converted::new());
+        let (users, place) = (0, NO_PLACE);
+        Searched { case, start, now: start, workspace, fills, users, place, converted }
     }
 
     /// What a run begins with. The answer alone, where it goes by the status, begins with a search for
@@ -265,6 +308,22 @@ impl<'a> Searched<'a> {
             self.start.with_defined_letter()
         } else {
             self.start
+        }
+    }
+
+    /// A text read or written.
+    fn convert(&mut self, users: usize, roles: usize) -> u8 {
+        let (out, bytes) = (&mut self.workspace.0[..MAX_WORDS], &mut self.converted.bytes);
+        let answer = match &self.case.job {
+            Job::Read(text) => text::read_text(users, roles, text, out),
+            _ => text::write_text(users, roles, &self.case.policy.words, bytes),
+        };
+        match answer {
+            Ok(written) => self.converted.note(written),
+            Err(refused) => {
+                self.place = refused.place.map_or(NO_PLACE, |place| place as u8);
+                refused.code as u8
+            }
         }
     }
 
@@ -312,6 +371,7 @@ impl Candidate for Searched<'_> {
                 self.place = place.map_or(NO_PLACE, |place| place as u8);
                 number(code)
             }
+            (Job::Read(_) | Job::Write, _) => self.convert(users, roles),
         }
     }
 
@@ -320,7 +380,9 @@ impl Candidate for Searched<'_> {
     }
 
     fn words(&self) -> Option<&[u32]> {
-        let filled = self.fills || matches!(self.case.job, Job::NormalForm | Job::Open);
+        let always =
+            matches!(self.case.job, Job::NormalForm | Job::Open | Job::Read(_) | Job::Write);
+        let filled = self.fills || always;
         filled.then_some(&self.workspace.0[..words_left(self.case)])
     }
 
@@ -330,6 +392,10 @@ impl Candidate for Searched<'_> {
 
     fn place(&self) -> Option<u8> {
         Some(self.place)
+    }
+
+    fn converted(&self) -> Option<&Converted> {
+        Some(&self.converted)
     }
 }
 
@@ -354,19 +420,21 @@ pub struct Tuned<'a> {
     fill: Fill,
     users: u16,
     place: u8,
+    converted: Converted,
 }
 
 impl<'a> Tuned<'a> {
     /// With the input of a case.
     pub fn new(case: &'a Case, fill: Fill) -> Tuned<'a> {
         let (start, workspace) = (from_raw(&start(case)), Workspace::new());
-        Tuned { case, start, now: start, workspace, fill, users: 0, place: NO_PLACE }
+        let (users, place, converted) = (0, NO_PLACE, Converted::new());
+        Tuned { case, start, now: start, workspace, fill, users, place, converted }
     }
 }
 
 impl Candidate for Tuned<'_> {
     fn run(&mut self) -> u8 {
-        let Tuned { case, start, now, workspace, fill, users: named, place } = self;
+        let Tuned { case, start, now, workspace, fill, users: named, place, converted } = self;
         let (users, roles) = (case.users(), case.roles);
         let (policy, rows) = (&case.policy.words[..], &case.policy.rows[..]);
         let workspace = &mut workspace.0[..];
@@ -394,6 +462,15 @@ impl Candidate for Tuned<'_> {
                 let opened = now.open((users, roles), policy, rows, case.given());
                 policy_byte(opened, place, |()| 0)
             }
+            Job::Read(text) => {
+                let out = &mut workspace[..MAX_WORDS];
+                let answer = tuned::text::read(users, roles, text, out);
+                policy_byte(answer, place, |written| converted.note(written))
+            }
+            Job::Write => {
+                let answer = tuned::text::write(users, roles, policy, &mut converted.bytes);
+                policy_byte(answer, place, |written| converted.note(written))
+            }
         }
     }
 
@@ -411,6 +488,10 @@ impl Candidate for Tuned<'_> {
 
     fn place(&self) -> Option<u8> {
         Some(self.place)
+    }
+
+    fn converted(&self) -> Option<&Converted> {
+        Some(&self.converted)
     }
 }
 

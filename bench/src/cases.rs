@@ -4,10 +4,12 @@ use std::collections::BTreeSet;
 
 use oskhrein::{Event, MAX_ROLES};
 use reference::policy::{met_bits, ones, read_term};
+use reference::text::text_of;
 
 /// Kinds of policy words.
 const EVERYONE: u32 = 1 << 24;
 const ROLE: u32 = 2 << 24;
+const SET: u32 = 3 << 24;
 const NOT: u32 = 4 << 24;
 const PLUS: u32 = 5 << 24;
 const EITHER: u32 = 6 << 24;
@@ -25,7 +27,7 @@ const ROLES: u8 = 8;
 const OUTSIDER: u8 = USERS - 1;
 
 /// What is asked.
-#[derive(Clone, Copy)]
+#[derive(Clone)]
 pub enum Job {
     /// An event by its word.
     Event(u32),
@@ -41,6 +43,10 @@ pub enum Job {
     NormalForm,
     /// The opening.
     Open,
+    /// The words of this text.
+    Read(Vec<u8>),
+    /// The text of the policy.
+    Write,
 }
 
 /// A policy with its name, and the roles of its users.
@@ -74,7 +80,8 @@ pub struct Case {
     pub roles: u8,
     /// The policy.
     pub policy: Policy,
-    /// How many actions are judged; for calls that judge none and for who may act, how many are taken.
+    /// How many actions are judged; for calls that judge none and for who may act, how many are taken;
+    /// of a text, how many bytes it has.
     pub actions: usize,
     /// How many users act.
     pub acting: usize,
@@ -239,7 +246,7 @@ impl Case {
         USERS
     }
 
-    /// Its name: what is asked, the policy, its words, the actions and the users who act.
+    /// Its name: what is asked, the policy, its words, the actions or bytes, and the users who act.
     pub fn name(&self) -> [String; 5] {
         let Case { what, policy, actions, acting, .. } = self;
         let [words, actions, acting] =
@@ -492,9 +499,60 @@ pub fn refused() -> Vec<Case> {
     policies.map(case).into()
 }
 
+/// A policy of 31 words whose text is the longest: sets of all users, apart.
+fn sets() -> Policy {
+    let words = [vec![APART; 15], vec![SET | 0xffff; 16]].concat();
+    written("sets of 16 users, apart", &words, &[1])
+}
+
+/// So many nots over a role.
+fn nots(count: usize) -> Policy {
+    written("nots over a role", &[vec![NOT; count], vec![ROLE]].concat(), &[1])
+}
+
+/// The text of an accepted policy.
+fn text(policy: &Policy) -> Vec<u8> {
+    let term = read_term(USERS.into(), ROLES.into(), &policy.words).expect("it is accepted");
+    text_of(&term)
+}
+
+/// Reading a text that a policy has, or one that is made from it.
+fn reading(what: &str, policy: Policy, text: Vec<u8>) -> Case {
+    let (what, actions) = (what.to_string(), text.len());
+    Case { what, actions, job: Job::Read(text), ..Case::new("", policy, 0, 0) }
+}
+
+/// The rows of the table of texts: policies of several shapes, then texts that are refused at once, at
+/// their last byte, after as many openings as fit, and for a policy that is too long.
+pub fn texts() -> Vec<Case> {
+    let mut cases = Vec::new();
+    let made = [1, 7, 31].map(|words| made(APART, words));
+    let others = [nots(30), sets(), policy_f(), licensee()];
+    for policy in made.into_iter().chain(others) {
+        let read = reading("read", policy.clone(), text(&policy));
+        let write = Case { what: "write".to_string(), job: Job::Write, ..read.clone() };
+        cases.extend([read, write]);
+    }
+    let other_end = |policy: &Policy| {
+        let mut text = text(policy);
+        *text.last_mut().expect("it has bytes") = b']';
+        text
+    };
+    let opened = [&b"policy: "[..], &[b'('; 1016]].concat();
+    let long = [&b"policy: "[..], &b"not ".repeat(253), b"all"].concat();
+    let nothing = |name| written(name, &[], &[1]);
+    cases.extend([
+        reading("read: refused 20", sets(), text(&sets())[1..].to_vec()),
+        reading("read: refused 21", sets(), other_end(&sets())),
+        reading("read: refused 21", nothing("parentheses"), opened),
+        reading("read: refused 1", nothing("nots over everyone"), long),
+    ]);
+    cases
+}
+
 /// The rows of all tables.
 pub fn all() -> Vec<Case> {
-    [calls(), enabled(), refused(), ordered(), by_status(), tests_alone()].concat()
+    [calls(), enabled(), refused(), ordered(), by_status(), tests_alone(), texts()].concat()
 }
 
 /// The rows of the table of calls; in each family the cases with more actions come later.

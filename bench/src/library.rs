@@ -11,7 +11,7 @@ use oskhrein::Event;
 
 use crate::cases::action;
 use crate::tuned::{self, Monitor};
-use earlier::{load, Others, WITH_ENABLED, WITH_PLACES, WITH_WORKFLOWS};
+use earlier::{load, Others, WITH_ENABLED, WITH_PLACES, WITH_TEXTS, WITH_WORKFLOWS};
 pub use layouts::Stored;
 use layouts::{Layout, LAYOUTS};
 
@@ -159,6 +159,11 @@ impl Library {
     /// Whether its monitors keep their status.
     pub fn keeps_status(&self) -> bool {
         self.layout.keeps_status
+    }
+
+    /// Whether it reads and writes texts.
+    pub fn has_texts(&self) -> bool {
+        self.calls.version() >= WITH_TEXTS
     }
 
     /// Whether it has permissions and workflows.

@@ -6,16 +6,16 @@
 //! - (d) one table a term.
 //!
 //! Who may act has a table of its own, where one event and a trial for each user stand beside it, and
-//! so have refused policies, permissions and workflows, where the same without them stands beside, and
-//! status and close, beside the test of a monitor alone.
+//! so have refused policies, permissions and workflows, where the same without them stands beside,
+//! status and close, beside the test of a monitor alone, and texts.
 //!
 //! Before a case is timed, all of them must agree on the answer, the monitor and the place of a
-//! policy's fault, and those that fill the workspace on every word of it. Times are for reading;
-//! nothing passes or fails by them.
+//! policy's fault, those that fill the workspace on every word of it, and on texts on all that is
+//! written. Times are for reading; nothing passes or fails by them.
 //!
 //! `bench enabled` prints the table of who may act alone, `bench refused` that of refused policies,
-//! `bench workflow` that of permissions and workflows, `bench status` that of status and close.
-//! `bench rows` lists the rows of all tables, `bench time ROW..` times some of them without (b) and
+//! `bench workflow` that of permissions and workflows, `bench status` that of status and close,
+//! `bench texts` that of texts. `bench rows` lists the rows of all tables, `bench time ROW..` times some of them without (b) and
 //! (d), and `bench repeat ROW CANDIDATE RUNS` does one of them so often, for a program that counts
 //! instructions.
 
@@ -28,6 +28,7 @@ mod refused;
 mod report;
 mod status;
 mod table;
+mod texts;
 mod timing;
 mod tuned;
 mod workflow;
@@ -44,6 +45,7 @@ const USAGE: &str = "usage: bench
        bench refused
        bench workflow
        bench status
+       bench texts
        bench rows
        bench time ROW..
        bench repeat ROW CANDIDATE RUNS";
@@ -68,9 +70,11 @@ impl Builds {
             Box::new(Proved::new(case, &self.linked)),
             Box::new(Tuned::new(case, tuned::rows::fill)),
         ];
-        let asked = matches!(case.job, Job::Enabled(_));
-        let has = |own: &&Library| {
-            (!asked || own.tells_enabled()) && (case.order.is_none() || own.has_workflows())
+        let has = |own: &&Library| match case.job {
+            _ if case.order.is_some() && !own.has_workflows() => false,
+            Job::Enabled(_) => own.tells_enabled(),
+            Job::Read(_) | Job::Write => own.has_texts(),
+            _ => true,
         };
         if let Some(earlier) = self.earlier.as_ref().filter(has) {
             all.push(Box::new(Proved::new(case, earlier)));
@@ -106,8 +110,10 @@ fn agree(case: &Case, all: &mut [Box<dyn Candidate + '_>]) {
     let (monitor, users) = (all[0].monitor(), all[0].users());
     let places: Vec<u8> = all.iter().filter_map(|candidate| candidate.place()).collect();
     let words: Vec<&[u32]> = all.iter().filter_map(|candidate| candidate.words()).collect();
+    let texts: Vec<_> = all.iter().filter_map(|candidate| candidate.converted()).collect();
     assert!(all.iter().all(|candidate| candidate.monitor() == monitor), "{name}: monitors");
     assert!(words.iter().all(|own| *own == words[0]), "{name}: workspaces");
+    assert!(texts.iter().all(|own| *own == texts[0]), "{name}: texts");
     assert!(all.iter().all(|candidate| candidate.users() == users), "{name}: users");
     assert!(places.iter().all(|place| *place == places[0]), "{name}: places {places:?}");
 }
@@ -121,6 +127,7 @@ fn print(builds: &Builds) {
     refused::print(builds);
     workflow::print(builds);
     status::print(builds);
+    texts::print(builds);
 }
 
 /// Prints one table alone.
@@ -172,6 +179,7 @@ fn run(arguments: &[&str]) -> Result<(), String> {
         ["refused"] => print_alone(&Builds::new()?, refused::print),
         ["workflow"] => print_alone(&Builds::new()?, workflow::print),
         ["status"] => print_alone(&Builds::new()?, status::print),
+        ["texts"] => print_alone(&Builds::new()?, texts::print),
         ["rows"] => {
             for (row, case) in cases::all().iter().enumerate() {
                 println!("{row} | {}", case.name().join(" | "));

@@ -8,6 +8,7 @@ pub mod by_term;
 pub mod normal;
 pub mod policy;
 pub mod rows;
+pub mod text;
 pub mod workflow;
 
 use oskhrein::Refusal;

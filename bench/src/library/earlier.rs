@@ -8,6 +8,7 @@
 //! | 0.3.0 | the place of a policy's fault, behind the parameters of each call that reads one | 2 |
 //! | 0.5.0 | permissions and workflows, in an opening and in who may act | 3 |
 //! | 0.6.0 | a monitor that keeps its status, whose call then takes no workspace | 4 |
+//! | 0.7.0 | a policy's text, read and written | 4 |
 
 use std::ffi::{c_char, c_int, c_void, CString};
 use std::mem::transmute;
@@ -25,6 +26,8 @@ pub const WITH_PLACES: u32 = 0x000300;
 pub const WITH_WORKFLOWS: u32 = 0x000500;
 /// The first version whose monitors keep their status.
 const WITH_STATUS: u32 = 0x000600;
+/// The first version that reads and writes texts.
+pub const WITH_TEXTS: u32 = 0x000700;
 
 /// An opening before 0.5.0. Before 0.3.0 it lacks the last parameter, which the caller passes and takes
 /// back, so that it need not know of it.
@@ -61,11 +64,17 @@ extern "C" fn unasked(_: *const Stored, _: *mut u32, _: usize, _: *mut u16) -> u
     u8::MAX
 }
 
+/// What stands in for reading and writing texts in a build before 0.7.0, which is not asked for it.
+extern "C" fn uncalled() -> u8 {
+    u8::MAX
+}
+
 /// What stands in for a function that a build lacks.
 fn stand_in(name: &str) -> Option<NonNull<c_void>> {
     match name {
         "oskhrein_version" | "oskhrein_layout" => NonNull::new(unknown as *mut c_void),
         ENABLED => NonNull::new(unasked as *mut c_void),
+        "oskhrein_read_text" | "oskhrein_write_text" => NonNull::new(uncalled as *mut c_void),
         _ => None,
     }
 }
