@@ -2,7 +2,7 @@
 
 use crate::cases::{self, Case};
 use crate::library::Library;
-use crate::table::{columns, largest, line, noise, of_earlier, ratio, time};
+use crate::table::{columns, goal, largest, line, noise, of_earlier, ratio, time};
 use crate::timing::{self, Timed};
 use crate::{agree, Builds};
 
@@ -38,11 +38,6 @@ impl Row {
             cells.extend(of_earlier(self.earlier.as_ref(), |own| proved.over(own)));
         }
         line(&self.name, &cells);
-    }
-
-    /// How many nanoseconds the library takes longer than tuned code.
-    fn behind(&self) -> f64 {
-        self.proved.best() - self.tuned.best()
     }
 }
 
@@ -88,12 +83,7 @@ fn foot(rows: &[Row]) {
     let over_tuned = |row: &Row| row.proved.over(&row.tuned);
     println!();
     println!("Largest a/c: {}.", largest(rows.iter().map(|row| (&row.name[..], over_tuned(row)))));
-    let above = count(&|row| over_tuned(row) > 1.25);
-    let far = count(&|row| over_tuned(row) > 1.25 && row.behind() > 100.0);
-    let all = rows.len();
-    println!(
-        "Rows with a/c above 1.25: {above} of {all}; of these more than 100 ns behind: {far}."
-    );
+    goal(rows.iter().map(|row| (&row.proved, &row.tuned)));
     let slower = count(&|row| row.search_fills.over(&row.proved) < 1.0);
     println!("Rows in which (a) is slower than (b): {slower}.");
     let slower = count(&|row| row.search.over(&row.proved) < 1.0);

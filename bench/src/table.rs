@@ -50,6 +50,21 @@ pub fn largest<'a>(rows: impl Iterator<Item = (&'a str, f64)>) -> String {
     })
 }
 
+/// Prints how many rows miss the goal, by the times of the library and of tuned code in each: at most 1.25
+/// times the time of tuned code, or within 100 ns of it.
+pub fn goal<'a>(rows: impl Iterator<Item = (&'a Timed, &'a Timed)>) {
+    let (mut all, mut above, mut far) = (0, 0, 0);
+    for (proved, tuned) in rows {
+        let misses = proved.over(tuned) > 1.25;
+        all += 1;
+        above += usize::from(misses);
+        far += usize::from(misses && proved.best() - tuned.best() > 100.0);
+    }
+    println!(
+        "Rows with a/c above 1.25: {above} of {all}; of these more than 100 ns behind: {far}."
+    );
+}
+
 /// Prints how far the turns of the library differed, from its times in all rows.
 pub fn noise<'a>(proved: impl Iterator<Item = &'a Timed>) {
     let noise = proved.map(Timed::noise).fold(1.0, f64::max);

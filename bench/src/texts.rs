@@ -4,7 +4,7 @@
 use crate::candidates::{Candidate, Searched};
 use crate::cases::{self, Case, Job};
 use crate::library::Library;
-use crate::table::{columns, largest, line, noise, of_earlier, ratio, time};
+use crate::table::{columns, goal, largest, line, noise, of_earlier, ratio, time};
 use crate::timing::{self, Timed};
 use crate::{agree, Builds};
 
@@ -15,6 +15,7 @@ Policies as text, with 16 users and 8 roles. Bytes: those of the text.
 - (a) the call
 - (b) the reference program
 - (c) the call tuned by hand: one pass, no recursion, eight bytes at a time
+- (e) where there is an earlier build that has the call, its call
 
 Sets of 16 users, apart, have the longest text of all policies. Refused 20: that text without its first
 byte. Refused 21: that text with another last byte; and the opening bytes with nothing but `(` behind
@@ -66,6 +67,7 @@ fn foot(rows: &[Row]) {
     println!();
     println!("Largest a/c of reading: {}.", worst(&reads));
     println!("Largest a/c of writing: {}.", worst(&writes));
+    goal(rows.iter().map(|row| (&row.proved, &row.tuned)));
     let slower = rows.iter().filter(|row| row.search.over(&row.proved) < 1.0).count();
     println!("Rows in which (a) is slower than (b): {slower} of {}.", rows.len());
     noise(rows.iter().map(|row| &row.proved));
