@@ -86,7 +86,7 @@ impl Writer<'_> {
                 if !own.is_between() {
                     let kind = words[own.place()] >> 24;
                     // SAFETY: as before.
-                    unsafe { self.add(OPERATORS[kind as usize - EITHER as usize & 3]) };
+                    unsafe { self.add(OPERATORS[(kind - EITHER) as usize & 3]) };
                     open[last & 31] = own.between();
                     first = place + 1;
                     break;
