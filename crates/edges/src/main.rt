@@ -5,6 +5,7 @@ use monitor::Opened;
 use monitor::Status;
 use multiset::Verdict;
 use policy::Code;
+use text::Converted;
 
 // Fifteen boths and sixteen everyones: the longest policy, and one word more.
 const LONGEST: [u32; 31] = [
@@ -756,6 +757,71 @@ fn lengths() {
     open_parts(b"workflow of three bytes: ", &permissions, &workflow[..3]);
 }
 
+// What a conversion is answered.
+fn say_converted(asked: &[u8], converted: Converted) {
+    match converted {
+        Converted::Written(_) => say(asked, 0),
+        Converted::Refused(code) => say_code(asked, code),
+    }
+}
+
+// Reads a text under 15 users and 15 roles, with room for 31 words, and says the code.
+fn read(asked: &[u8], text: &[u8]) {
+    let mut words = [0u32; 31];
+    say_converted(asked, parser::read_text(15, 15, text, &mut words));
+}
+
+// Numbers up to 15, declared or not, and users that ascend or do not.
+fn numerals() {
+    read(b"text of role 14: ", b"policy: r14");
+    read(b"text of role 15: ", b"policy: r15");
+    read(b"text of role 16: ", b"policy: r16");
+    read(b"text of role 07: ", b"policy: r07");
+    read(b"text of users 0 and 14: ", b"policy: {0,14}");
+    read(b"text of users 0 and 15: ", b"policy: {0,15}");
+    read(b"text of users 14 and 0: ", b"policy: {14,0}");
+    read(b"text of no user: ", b"policy: {}");
+}
+
+// The opening bytes, and what stands behind a term.
+fn openings() {
+    read(b"seven bytes: ", b"policy:");
+    read(b"eight bytes: ", b"policy: ");
+    read(b"all: ", b"policy: all");
+    read(b"all and a space: ", b"policy: all ");
+    read(b"not over with: ", b"policy: (all or not (all with all))");
+}
+
+// 31 words have a text of 176 bytes here.
+fn texts() {
+    let longest = LONGEST;
+    let too_long = TOO_LONG;
+    let mut text = [0u8; 176];
+    let mut short_text = [0u8; 175];
+    say_converted(
+        b"31 words into 175 bytes: ",
+        printer::write_text(1, 1, &longest, &mut short_text),
+    );
+    say_converted(
+        b"31 words into 176 bytes: ",
+        printer::write_text(1, 1, &longest, &mut text),
+    );
+    say_converted(
+        b"32 words: ",
+        printer::write_text(1, 1, &too_long, &mut short_text),
+    );
+    let mut words = [0u32; 31];
+    let mut short_words = [0u32; 30];
+    say_converted(
+        b"176 bytes into 30 words: ",
+        parser::read_text(1, 1, &text, &mut short_words),
+    );
+    say_converted(
+        b"176 bytes into 31 words: ",
+        parser::read_text(1, 1, &text, &mut words),
+    );
+}
+
 fn main() {
     words();
     users();
@@ -776,4 +842,7 @@ fn main() {
     transitions();
     numbers();
     lengths();
+    numerals();
+    openings();
+    texts();
 }
