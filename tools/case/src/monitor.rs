@@ -2,7 +2,6 @@
 
 use std::fmt;
 
-use oskhrein::raw::Calls;
 use oskhrein::{Monitor, Refusal, Workspace};
 
 use crate::file::{Case, Secure};
@@ -24,14 +23,8 @@ pub const MOST_PERMITTED: u32 = oskhrein::ACTION_NUMBERS as u32 - 1;
 /// The number of permissions and a workflow that are out of form.
 pub const OUT_OF_FORM: u8 = Refusal::Workflow.number();
 
-/// The number of a policy's text that does not begin as one does.
-const NO_OPENING: u8 = 20;
-/// The number of one that is no term behind that, or too long.
-const NO_TERM: u8 = 21;
 /// With what a policy's text begins.
 pub const OPENING: &str = "policy: ";
-/// The most bytes of a policy's text.
-const MOST_TEXT: usize = 1024;
 
 /// A refusal: its number, the place of a policy's fault, and what the number says.
 #[derive(Clone, Debug, PartialEq, Eq)]
@@ -50,23 +43,6 @@ impl From<Refusal> for Refused {
         let own = refusal.sentence().split(';').next().unwrap_or_default();
         let (number, place) = (refusal.number(), refusal.place());
         Refused { number, place, sentence: own.to_string() }
-    }
-}
-
-impl Refused {
-    /// The refusal of a call that reads or writes a policy's text.
-    fn of_text(number: u8, place: u8) -> Refused {
-        let sentence = match number {
-            NO_OPENING => "the text does not begin with `policy: `, with a blank behind the colon",
-            NO_TERM => {
-                "what stands behind `policy: ` is no term, or the text has more than 1,024 bytes"
-            }
-            _ => {
-                let refusal = Refusal::of_number(number, place);
-                return refusal.expect("a number that a call answers").into();
-            }
-        };
-        Refused { number, place: None, sentence: sentence.to_string() }
     }
 }
 
@@ -166,13 +142,8 @@ pub fn normal_form(case: &Case) -> Result<Vec<u32>, Refused> {
 /// # Errors
 /// The refusal of the text, the counts or the words.
 pub fn read_text(text: &str, counts: Counts) -> Result<Vec<u32>, Refused> {
-    let (mut out, mut written, mut place) = ([0; MOST_WORDS], 0, 0);
-    let Counts { users, roles } = counts;
-    let text = text.as_bytes();
-    match Calls::LINKED.read_text(users, roles, text, &mut out, &mut written, &mut place) {
-        0 => Ok(out[..written].to_vec()),
-        number => Err(Refused::of_text(number, place)),
-    }
+    let mut out = [0; MOST_WORDS];
+    Ok(oskhrein::read_text(counts.users, counts.roles, text, &mut out)?.to_vec())
 }
 
 /// The text of a policy's words, with these counts.
@@ -180,12 +151,8 @@ pub fn read_text(text: &str, counts: Counts) -> Result<Vec<u32>, Refused> {
 /// # Errors
 /// The refusal of the counts or the words.
 pub fn write_text(words: &[u32], counts: Counts) -> Result<String, Refused> {
-    let (mut out, mut written, mut place) = ([0; MOST_TEXT], 0, 0);
-    let Counts { users, roles } = counts;
-    match Calls::LINKED.write_text(users, roles, words, &mut out, &mut written, &mut place) {
-        0 => Ok(out[..written].iter().map(|byte| char::from(*byte)).collect()),
-        number => Err(Refused::of_text(number, place)),
-    }
+    let mut out = [0; oskhrein::LONGEST_TEXT];
+    Ok(oskhrein::write_text(counts.users, counts.roles, words, &mut out)?.to_string())
 }
 
 /// The text of an accepted policy's words.

@@ -90,13 +90,12 @@ fn blanks_and_comments_around_it_are_the_lines() {
 
 #[test]
 fn each_number_is_told() {
-    let opening =
-        "refused 20: the text does not begin with `policy: `, with a blank behind the colon";
+    let opening = "refused 20: the text does not begin with `policy: `";
     for line in ["policy:", "policy:all", "policy:\tall", "policy:\u{a0}all", "policy:\u{a0}"] {
         assert_eq!(told(line), opening, "{line:?}");
     }
-    let text =
-        "refused 21: what stands behind `policy: ` is no term, or the text has more than 1,024 bytes";
+    let text = "refused 21: what stands behind `policy: ` is not exactly one term, \
+                or the text has more than 1,024 bytes";
     let long = format!("policy: {}all", "not ".repeat(254));
     for line in ["policy: ", "policy: r16", "policy: r00", "policy: {}", "policy: {1,0}", &long] {
         assert_eq!(told(line), text, "{line:?}");
