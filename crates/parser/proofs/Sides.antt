@@ -151,24 +151,66 @@ is-pair w (over f) p e = absurd (omega (arith, p .0))
 is-pair w pair p e = refl
 
 -- ── the first side ──
-module _ (t out new : List ℕ) (i w : ℕ) (no-leaf : leafIn t ≡ none) (h : There (HeadWord w) (headIn t) t i) (room : 1 ≤ length out) (a : Span) (first : List ℕ)
-    (read : Parsed (from i t) (from 1 out) a first) where
+-- what stands before it, and what is read of it into out behind its first word
+pub record First (t out : List ℕ) : Type 0 where
+  pub i : ℕ
+  pub w : ℕ
+  pub no-leaf : leafIn t ≡ none
+  pub head : There (HeadWord w) (headIn t) t i
+  pub room : 1 ≤ length out
+  pub span : Span
+  pub words : List ℕ
+  pub read : Parsed (from i t) (from 1 out) span words
+
+-- its words stand in out
+abbrev pub mid : (t out : List ℕ) → First t out → List ℕ
+mid t out f = putMid 1 (length out - 1) out (f .words)
+
+-- an operator, and what is read of the second side into out behind the first
+pub record Second (t out : List ℕ) (f : First t out) : Type 0 where
+  pub k : ℕ
+  pub v : ℕ
+  pub operator : Got (OperatorWord v) (operatorIn (from (f .i + f .span .bytes) t)) t (f .i + f .span .bytes) k
+  pub span : Span
+  pub words : List ℕ
+  pub read : Parsed (from (f .i + f .span .bytes + k) t) (from (1 + f .span .words) (mid t out f)) span words
+
+-- the words of both stand in out
+abbrev pub last : (t out : List ℕ) (f : First t out) → Second t out f → List ℕ
+last t out f g = putMid (1 + f .span .words) (length (mid t out f) - (1 + f .span .words)) (mid t out f) (g .words)
+
+module _ (t out new : List ℕ) (f : First t out) where
+  abbrev i : ℕ
+  i = f .i
+
+  abbrev w : ℕ
+  w = f .w
+
+  abbrev a : Span
+  a = f .span
+
+  abbrev h : There (HeadWord w) (headIn t) t i
+  h = f .head
+
+  abbrev written : List ℕ
+  written = mid t out f
+
   rest-room : 1 + length (from 1 out) ≡ length out
   rest-room = omega (arith, from-length 1 out)
 
   pub parsed-no-first : a .bytes ≡ 0 → Parsed t out none-read new
   parsed-no-first e = parsed-none t out new (λ n d.
-      ap (fitting (length out)) (headed t out new no-leaf i w n h)
+      ap (fitting (length out)) (headed t out new (f .no-leaf) i w n h)
       ∙ ap (λ (x : ℕ). fitting x (sidesIn (termIn n) (h .thing) (drop i t))) (sym rest-room)
       ∙ no-first (termIn n) w (h .thing) (h .holds) (length (from 1 out)) (drop i t)
-      (side-missing t (from 1 out) i a first read n (omega (arith, h .some-bytes)) e))
+      (side-missing t (from 1 out) i a (f .words) (f .read) n (omega (arith, h .some-bytes)) e))
 
   module _ (there : a .bytes ≡ 0 → ⊥) where
-    pub first-side : (n : ℕ) → length t ≤ suc n → Side t (from 1 out) i a first n
-    first-side n d = side-got t (from 1 out) i a first read n (omega (arith, h .some-bytes)) (h .within) there
+    pub first-side : (n : ℕ) → length t ≤ suc n → Side t (from 1 out) i a (f .words) n
+    first-side n d = side-got t (from 1 out) i a (f .words) (f .read) n (omega (arith, h .some-bytes)) (h .within) there
 
     -- it is read at any depth: at this one, whatever is asked of its length
-    pub first-found : Side t (from 1 out) i a first (length t)
+    pub first-found : Side t (from 1 out) i a (f .words) (length t)
     first-found = first-side (length t) (omega arith)
 
     pub first-within : i + a .bytes ≤ length t
@@ -177,25 +219,21 @@ module _ (t out new : List ℕ) (i w : ℕ) (no-leaf : leafIn t ≡ none) (h : T
     pub first-room : 1 + a .words ≤ length out
     first-room = let s = first-found in omega (arith, s .worded .put .count, encode-length (s .term), s .worded .room, rest-room)
 
-    -- the words of the first side stand in out
-    abbrev mid : List ℕ
-    mid = putMid 1 (length out - 1) out first
+    first-put : (n : ℕ) (d : length t ≤ suc n) → Put (getD out 0 0 ∷ encode (first-side n d .term)) out (1 + a .words) written
+    first-put n d = put-behind (put-nothing out (f .room)) (first-side n d .worded .put)
 
-    first-put : (n : ℕ) (d : length t ≤ suc n) → Put (getD out 0 0 ∷ encode (first-side n d .term)) out (1 + a .words) mid
-    first-put n d = put-behind (put-nothing out room) (first-side n d .worded .put)
-
-    pub mid-length : length mid ≡ length out
+    pub mid-length : length written ≡ length out
     mid-length =
         let s = first-side (length t) (omega arith) in
         put-length (first-put (length t) (omega arith)) (omega (arith, encode-length (s .term), s .worded .room, rest-room))
 
     -- not or plus
-    pub parsed-over : (w ≡ 0 → ⊥) → Parsed t out (record { bytes = i + a .bytes; words = 1 + a .words }) (set mid 0 w)
-    parsed-over o = parsed-some t out (record { bytes = i + a .bytes; words = 1 + a .words }) (set mid 0 w)
+    pub parsed-over : (w ≡ 0 → ⊥) → Parsed t out (record { bytes = i + a .bytes; words = 1 + a .words }) (set written 0 w)
+    parsed-over o = parsed-some t out (record { bytes = i + a .bytes; words = 1 + a .words }) (set written 0 w)
         (omega (arith, h .some-bytes)) first-within (λ n d.
         let s = first-side n d in
         let (χ, e, p, q) = over-side (termIn n) w (h .thing) (h .holds) o (drop i t) (s .term) (drop (i + a .bytes) t) (s .same) in
-        (χ, headed t out new no-leaf i w n h ∙ e, record { put = rw p (put-first w (first-put n d)); room = omega (arith, s .worded .room, rest-room) }))
+        (χ, headed t out new (f .no-leaf) i w n h ∙ e, record { put = rw p (put-first w (first-put n d)); room = omega (arith, s .worded .room, rest-room) }))
 
     -- ── an operator ──
     module _ (two : w ≡ 0) where
@@ -203,23 +241,34 @@ module _ (t out new : List ℕ) (i w : ℕ) (no-leaf : leafIn t ≡ none) (h : T
           termIn (suc n) t ≡ upon (operatorIn (drop (i + a .bytes) t)) (λ op. upon (termIn n (op .1)) (λ ψ.
           keyword (ascii ")") (bin (op .0) (s .term) (ψ .0)) (ψ .1)))
       paired n d =
-          headed t out new no-leaf i w n h ∙ ap (λ (x : Head). sidesIn (termIn n) x (drop i t)) (is-pair w (h .thing) (h .holds) two)
+          headed t out new (f .no-leaf) i w n h ∙ ap (λ (x : Head). sidesIn (termIn n) x (drop i t)) (is-pair w (h .thing) (h .holds) two)
           ∙ rw (first-side n d .same) refl
 
       pub parsed-no-operator : operatorIn (drop (i + a .bytes) t) ≡ none → Parsed t out none-read new
       parsed-no-operator e = parsed-none t out new (λ n d. ap (fitting (length out)) (paired n d) ∙ rw e refl)
 
       -- ── the second side ──
-      module _ (k v : ℕ) (o : Got (OperatorWord v) (operatorIn (from (i + a .bytes) t)) t (i + a .bytes) k) (b : Span) (second : List ℕ)
-          (read-second : Parsed (from (i + a .bytes + k) t) (from (1 + a .words) mid) b second) where
+      module _ (g : Second t out f) where
+        abbrev k : ℕ
+        k = g .k
+
+        abbrev o : Got (OperatorWord (g .v)) (operatorIn (from (i + a .bytes) t)) t (i + a .bytes) k
+        o = g .operator
+
+        abbrev b : Span
+        b = g .span
+
+        abbrev end : List ℕ
+        end = last t out f g
+
         between : (n : ℕ) (d : length t ≤ suc n) → let s = first-side n d in
             termIn (suc n) t ≡ upon (termIn n (drop (i + a .bytes + k) t)) (λ ψ. keyword (ascii ")") (bin (o .thing) (s .term) (ψ .0)) (ψ .1))
         between n d = paired n d ∙ rw (ap operatorIn (sym (from-drop (i + a .bytes) t)) ∙ o .same) refl
 
-        behind-room : (n : ℕ) (d : length t ≤ suc n) → (1 + size (first-side n d .term)) + length (from (1 + a .words) mid) ≡ length out
+        behind-room : (n : ℕ) (d : length t ≤ suc n) → (1 + size (first-side n d .term)) + length (from (1 + a .words) written) ≡ length out
         behind-room n d =
             let s = first-side n d in
-            omega (arith, from-length (1 + a .words) mid, mid-length, s .worded .put .count, encode-length (s .term), first-room)
+            omega (arith, from-length (1 + a .words) written, mid-length, s .worded .put .count, encode-length (s .term), first-room)
 
         pub parsed-no-second : b .bytes ≡ 0 → Parsed t out none-read new
         parsed-no-second e = parsed-none t out new (λ n d.
@@ -227,13 +276,13 @@ module _ (t out new : List ℕ) (i w : ℕ) (no-leaf : leafIn t ≡ none) (h : T
             let K : Term × List ℕ → Read Term = λ ψ. keyword (ascii ")") (bin (o .thing) (s .term) (ψ .0)) (ψ .1) in
             ap (fitting (length out)) (between n d)
             ∙ ap (λ (x : ℕ). fitting x (upon (termIn n (drop (i + a .bytes + k) t)) K)) (sym (behind-room n d))
-            ∙ large-still (1 + size (s .term)) (length (from (1 + a .words) mid)) (termIn n (drop (i + a .bytes + k) t)) K
+            ∙ large-still (1 + size (s .term)) (length (from (1 + a .words) written)) (termIn n (drop (i + a .bytes + k) t)) K
             (λ ψ. finds-keyword (ascii ")") (bin (o .thing) (s .term) (ψ .0)) (ψ .1) (λ rest _. omega arith))
-            (side-missing t (from (1 + a .words) mid) (i + a .bytes + k) b second read-second n (omega (arith, h .some-bytes)) e))
+            (side-missing t (from (1 + a .words) written) (i + a .bytes + k) b (g .words) (g .read) n (omega (arith, h .some-bytes)) e))
 
         module _ (there-too : b .bytes ≡ 0 → ⊥) where
-          second-side : (n : ℕ) → length t ≤ suc n → Side t (from (1 + a .words) mid) (i + a .bytes + k) b second n
-          second-side n d = side-got t (from (1 + a .words) mid) (i + a .bytes + k) b second read-second n (omega (arith, h .some-bytes)) (o .within) there-too
+          second-side : (n : ℕ) → length t ≤ suc n → Side t (from (1 + a .words) written) (i + a .bytes + k) b (g .words) n
+          second-side n d = side-got t (from (1 + a .words) written) (i + a .bytes + k) b (g .words) (g .read) n (omega (arith, h .some-bytes)) (o .within) there-too
 
           pub second-within : i + a .bytes + k + b .bytes ≤ length t
           second-within = second-side (length t) (omega arith) .within
@@ -246,10 +295,6 @@ module _ (t out new : List ℕ) (i w : ℕ) (no-leaf : leafIn t ≡ none) (h : T
           parsed-unclosed e = parsed-none t out new (λ n d.
               ap (fitting (length out)) (closing n d)
               ∙ ap (fitting (length out)) (miss (ascii ")") (bin (o .thing) (first-side n d .term) (second-side n d .term)) (drop (i + a .bytes + k + b .bytes) t) e))
-
-          -- the words of both sides stand in out
-          abbrev end : List ℕ
-          end = putMid (1 + a .words) (length mid - (1 + a .words)) mid second
 
           both-put : (n : ℕ) (d : length t ≤ suc n)
               → Put (getD out 0 0 ∷ (encode (first-side n d .term) ++ encode (second-side n d .term))) out (1 + a .words + b .words) end
@@ -272,16 +317,16 @@ module _ (t out new : List ℕ) (i w : ℕ) (no-leaf : leafIn t ≡ none) (h : T
               (omega (arith, both-room (length t) (omega arith), length-append (encode (s .term)) (encode (u .term)), encode-length (s .term), encode-length (u .term)))
 
           pub parsed-pair : Yes (ascii ")") (drop (i + a .bytes + k + b .bytes) t)
-              → Parsed t out (record { bytes = i + a .bytes + k + b .bytes + 1; words = 1 + a .words + b .words }) (set end 0 v)
-          parsed-pair e = parsed-some t out (record { bytes = i + a .bytes + k + b .bytes + 1; words = 1 + a .words + b .words }) (set end 0 v)
+              → Parsed t out (record { bytes = i + a .bytes + k + b .bytes + 1; words = 1 + a .words + b .words }) (set end 0 (g .v))
+          parsed-pair e = parsed-some t out (record { bytes = i + a .bytes + k + b .bytes + 1; words = 1 + a .words + b .words }) (set end 0 (g .v))
               (omega arith) (omega (arith, found-within (ascii ")") (drop (i + a .bytes + k + b .bytes) t) e, length-drop (i + a .bytes + k + b .bytes) t)) (λ n d.
               let χ = bin (o .thing) (first-side n d .term) (second-side n d .term) in (
                 χ,
                 closing n d ∙ hit (ascii ")") χ (drop (i + a .bytes + k + b .bytes) t) e
                     ∙ ap (found χ) (drop-drop 1 (i + a .bytes + k + b .bytes) t),
                 record {
-                  put = subst (λ (x : ℕ). Put (x ∷ (encode (first-side n d .term) ++ encode (second-side n d .term))) out (1 + a .words + b .words) (set end 0 v))
-                      (o .holds) (put-first v (both-put n d));
+                  put = subst (λ (x : ℕ). Put (x ∷ (encode (first-side n d .term) ++ encode (second-side n d .term))) out (1 + a .words + b .words) (set end 0 (g .v)))
+                      (o .holds) (put-first (g .v) (both-put n d));
                   room = both-room n d;
                 },
               ))

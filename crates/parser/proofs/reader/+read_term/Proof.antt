@@ -18,6 +18,7 @@ use Rattle.text.specs.Texts.{ascii}
 use Rattle.text.specs.Grammar.{isFound, behind, leafIn, headIn, operatorIn}
 use Rattle.parser.specs.Private.{LeafWord, HeadWord, OperatorWord}
 use Rattle.parser.proofs.Readers.{found-within, missing, Got, got, There, there}
+use Rattle.parser.proofs.Sides as sides
 use Rattle.parser.proofs.Sides.{parsed-nowhere, parsed-leaf, parsed-headless, parsed-no-first, first-within, first-room, mid-length, parsed-over, parsed-no-operator, parsed-no-second, second-within, parsed-unclosed, both-words, end-length, parsed-pair}
 use Rattle.parser.proofs.reader.read_term.Reads as read-term
 use Rattle.parser.proofs.reader.read_term.Kinds as read-term-kinds
@@ -191,15 +192,25 @@ module _ (t : ℕ) where
   abbrev mid : First → List ℕ
   mid c = putMid 1 (length (out (leafless c)) - 1) (out (leafless c)) (first c)
 
+  abbrev first-read : (c : First) → sides.First (whole c) (out (leafless c))
+  first-read c = record {
+    i = i c;
+    w = w c;
+    no-leaf = no-leaf (headed (firstly c));
+    head = head (firstly c);
+    room = room (leafless c);
+    span = c .read-term .result;
+    words = first c;
+    read = c .read-term .ensures;
+  }
+
   same-length-2 : lts.Need-same-length-2 calls at read-term.Post
   same-length-2 c = c .before .before .before .out .given .1
 
   returns-4 : lts.Need-returns-4 calls at read-term.Post
   returns-4 c =
       let f = c .before .before .before .before in
-      let e = firstly f in
-      parsed-no-first (whole f) (out (leafless f)) (mid f) (i f) (w f) (no-leaf (headed e)) (head e) (room (leafless f)) (f .read-term .result) (first f)
-      (f .read-term .ensures) (c .if4 .taken)
+      parsed-no-first (whole f) (out (leafless f)) (mid f) (first-read f) (c .if4 .taken)
 
   -- it is there
   abbrev There1 : Type 0
@@ -211,23 +222,17 @@ module _ (t : ℕ) where
   within-1 : (c : There1) → let f = once c in i f + f .read-term .result .bytes ≤ length (whole f)
   within-1 c =
       let f = once c in
-      let e = firstly f in
-      first-within (whole f) (out (leafless f)) (mid f) (i f) (w f) (no-leaf (headed e)) (head e) (room (leafless f)) (f .read-term .result) (first f)
-      (f .read-term .ensures) (c .if4 .left)
+      first-within (whole f) (out (leafless f)) (mid f) (first-read f) (c .if4 .left)
 
   room-1 : (c : There1) → let f = once c in 1 + f .read-term .result .words ≤ length (out (leafless f))
   room-1 c =
       let f = once c in
-      let e = firstly f in
-      first-room (whole f) (out (leafless f)) (mid f) (i f) (w f) (no-leaf (headed e)) (head e) (room (leafless f)) (f .read-term .result) (first f)
-      (f .read-term .ensures) (c .if4 .left)
+      first-room (whole f) (out (leafless f)) (mid f) (first-read f) (c .if4 .left)
 
   length-1 : (c : There1) → let f = once c in length (mid f) ≡ length (out (leafless f))
   length-1 c =
       let f = once c in
-      let e = firstly f in
-      mid-length (whole f) (out (leafless f)) (mid f) (i f) (w f) (no-leaf (headed e)) (head e) (room (leafless f)) (f .read-term .result) (first f)
-      (f .read-term .ensures) (c .if4 .left)
+      mid-length (whole f) (out (leafless f)) (mid f) (first-read f) (c .if4 .left)
 
   add-end : lts.Need-add-end calls at read-term.Post
   add-end c = let d = c .before in fits-below (text-fits (leafless (once d))) (within-1 d)
@@ -250,9 +255,7 @@ module _ (t : ℕ) where
       let g = c .before in
       let d = sided (g .before) in
       let f = once d in
-      let e = firstly f in
-      parsed-over (whole f) (out (leafless f)) (mid f) (i f) (w f) (no-leaf (headed e)) (head e) (room (leafless f)) (f .read-term .result) (first f)
-      (f .read-term .ensures) (d .if4 .left) (g .if5 .taken)
+      parsed-over (whole f) (out (leafless f)) (mid f) (first-read f) (d .if4 .left) (g .if5 .taken)
 
   -- ── an operator is asked for ──
   sub-read-operator : lts.Need-sub-read-operator calls at read-term.Post
@@ -284,10 +287,8 @@ module _ (t : ℕ) where
       let o = c .before .before in
       let d = before-it o in
       let f = once d in
-      let e = firstly f in
       let r = o .read-operator .result in
-      parsed-no-operator (whole f) (out (leafless f)) (mid f) (i f) (w f) (no-leaf (headed e)) (head e) (room (leafless f)) (f .read-term .result) (first f)
-      (f .read-term .ensures) (d .if4 .left) (paired o .if5 .left)
+      parsed-no-operator (whole f) (out (leafless f)) (mid f) (first-read f) (d .if4 .left) (paired o .if5 .left)
       (ap operatorIn (sym (from-drop (end o) (whole f)))
       ∙ missing (OperatorWord (r .word)) (operatorIn (from (end o) (whole f))) (from (end o) (whole f)) (r .bytes) (o .read-operator .ensures) (c .if6 .taken))
 
@@ -355,6 +356,18 @@ module _ (t : ℕ) where
       let f = once (before-it (between (secondly c))) in
       putMid (1 + f .read-term .result .words) (length (mid f) - (1 + f .read-term .result .words)) (mid f) (second c)
 
+  abbrev second-read : (c : Second) → let f = once (before-it (between (secondly c))) in sides.Second (whole f) (out (leafless f)) (first-read f)
+  second-read c =
+      let o = between (secondly c) in
+      record {
+        k = o .read-operator .result .bytes;
+        v = o .read-operator .result .word;
+        operator = operator (secondly c);
+        span = c .read-term2 .result;
+        words = second c;
+        read = c .read-term2 .ensures;
+      }
+
   same-length-5 : lts.Need-same-length-5 calls at read-term.Post
   same-length-5 c =
       let u = c .before .before .before in
@@ -367,11 +380,7 @@ module _ (t : ℕ) where
       let o = between g in
       let d = before-it o in
       let f = once d in
-      let e = firstly f in
-      let r = o .read-operator .result in
-      parsed-no-second (whole f) (out (leafless f)) (last u) (i f) (w f) (no-leaf (headed e)) (head e) (room (leafless f)) (f .read-term .result) (first f)
-      (f .read-term .ensures) (d .if4 .left) (paired o .if5 .left) (r .bytes) (r .word) (operator g) (u .read-term2 .result) (second u) (u .read-term2 .ensures)
-      (c .if7 .taken)
+      parsed-no-second (whole f) (out (leafless f)) (last u) (first-read f) (d .if4 .left) (paired o .if5 .left) (second-read u) (c .if7 .taken)
 
   -- it is there
   abbrev There2 : Type 0
@@ -390,11 +399,7 @@ module _ (t : ℕ) where
       let o = between g in
       let d = before-it o in
       let f = once d in
-      let e = firstly f in
-      let r = o .read-operator .result in
-      second-within (whole f) (out (leafless f)) (last u) (i f) (w f) (no-leaf (headed e)) (head e) (room (leafless f)) (f .read-term .result) (first f)
-      (f .read-term .ensures) (d .if4 .left) (paired o .if5 .left) (r .bytes) (r .word) (operator g) (u .read-term2 .result) (second u) (u .read-term2 .ensures)
-      (c .if7 .left)
+      second-within (whole f) (out (leafless f)) (last u) (first-read f) (d .if4 .left) (paired o .if5 .left) (second-read u) (c .if7 .left)
 
   words-2 : (c : There2) → let u = twice c in let f = once (before-it (between (secondly u))) in
       1 + f .read-term .result .words + u .read-term2 .result .words ≤ length (out (leafless f))
@@ -404,11 +409,7 @@ module _ (t : ℕ) where
       let o = between g in
       let d = before-it o in
       let f = once d in
-      let e = firstly f in
-      let r = o .read-operator .result in
-      both-words (whole f) (out (leafless f)) (last u) (i f) (w f) (no-leaf (headed e)) (head e) (room (leafless f)) (f .read-term .result) (first f)
-      (f .read-term .ensures) (d .if4 .left) (paired o .if5 .left) (r .bytes) (r .word) (operator g) (u .read-term2 .result) (second u) (u .read-term2 .ensures)
-      (c .if7 .left)
+      both-words (whole f) (out (leafless f)) (last u) (first-read f) (d .if4 .left) (paired o .if5 .left) (second-read u) (c .if7 .left)
 
   length-2 : (c : There2) → let u = twice c in length (last u) ≡ length (out (leafless (once (before-it (between (secondly u))))))
   length-2 c =
@@ -417,11 +418,7 @@ module _ (t : ℕ) where
       let o = between g in
       let d = before-it o in
       let f = once d in
-      let e = firstly f in
-      let r = o .read-operator .result in
-      end-length (whole f) (out (leafless f)) (last u) (i f) (w f) (no-leaf (headed e)) (head e) (room (leafless f)) (f .read-term .result) (first f)
-      (f .read-term .ensures) (d .if4 .left) (paired o .if5 .left) (r .bytes) (r .word) (operator g) (u .read-term2 .result) (second u) (u .read-term2 .ensures)
-      (c .if7 .left)
+      end-length (whole f) (out (leafless f)) (last u) (first-read f) (d .if4 .left) (paired o .if5 .left) (second-read u) (c .if7 .left)
 
   abbrev whole-text : There2 → Leaf
   whole-text c = leafless (once (before-it (between (secondly (twice c)))))
@@ -462,11 +459,7 @@ module _ (t : ℕ) where
       let o = between g in
       let d = before-it o in
       let f = once d in
-      let e = firstly f in
-      let r = o .read-operator .result in
-      parsed-unclosed (whole f) (out (leafless f)) (last u) (i f) (w f) (no-leaf (headed e)) (head e) (room (leafless f)) (f .read-term .result) (first f)
-      (f .read-term .ensures) (d .if4 .left) (paired o .if5 .left) (r .bytes) (r .word) (operator g) (u .read-term2 .result) (second u) (u .read-term2 .ensures)
-      (v .if7 .left) (sign (c .before) ∙ not-true (c .before .begins .result) (c .if8 .taken))
+      parsed-unclosed (whole f) (out (leafless f)) (last u) (first-read f) (d .if4 .left) (paired o .if5 .left) (second-read u) (v .if7 .left) (sign (c .before) ∙ not-true (c .before .begins .result) (c .if8 .taken))
 
   slice-write-out-3 : lts.Need-slice-write-out-3 calls at read-term.Post
   slice-write-out-3 c = let v = closing (c .before) in below-same (length-2 v) (room (whole-text v))
@@ -498,11 +491,7 @@ module _ (t : ℕ) where
       let o = between g in
       let d = before-it o in
       let f = once d in
-      let e = firstly f in
-      let r = o .read-operator .result in
-      parsed-pair (whole f) (out (leafless f)) (last u) (i f) (w f) (no-leaf (headed e)) (head e) (room (leafless f)) (f .read-term .result) (first f)
-      (f .read-term .ensures) (d .if4 .left) (paired o .if5 .left) (r .bytes) (r .word) (operator g) (u .read-term2 .result) (second u) (u .read-term2 .ensures)
-      (v .if7 .left) (sign (b .before) ∙ not-false (b .before .begins .result) (b .if8 .left))
+      parsed-pair (whole f) (out (leafless f)) (last u) (first-read f) (d .if4 .left) (paired o .if5 .left) (second-read u) (v .if7 .left) (sign (b .before) ∙ not-false (b .before .begins .result) (b .if8 .left))
 
 pub +read-term-spec : {M : Type 1} → statement M
 +read-term-spec = close μ λ t. lts.spec (calls t) (at t) read-term.Post
