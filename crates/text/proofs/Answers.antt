@@ -2,7 +2,7 @@
 use mathlib.Core.Path.{_≡_, refl, sym, ap, _∙_}
 use mathlib.Core.List.{List, [], _++_}
 use mathlib.Core.Option.{Option, some}
-use Prim.Native.Nat.{ℕ, _≤_}
+use Prim.Native.Nat.{ℕ, _≤_, _<_}
 use native.Mathlib.Omega.{arith}
 use borrow.Author.Tests.{eqb-true}
 use lib.Dec.{eqb}
@@ -12,16 +12,16 @@ use Rattle.soda.specs.Terms.{Term, size}
 use Rattle.soda.specs.Words.{encode}
 use Rattle.soda.proofs.Bools.{by-test}
 use Rattle.soda.proofs.Words.{encode-length}
-use Rattle.policy.specs.Codes.{ACCEPTED}
+use Rattle.policy.specs.Codes.{ACCEPTED, OUTPUT}
 use Rattle.policy.specs.Accepted.{IsPolicy}
 use Rattle.policy.specs.Faults.{codeAt}
 use Rattle.policy.proofs.Accepted.{decode-is-term}
 use Rattle.text.specs.Texts.{policyText}
 use Rattle.text.specs.Reading.{termOf, wordsOf, wordRefusals, readCode, converted, readAnswer, readOut}
 use Rattle.text.specs.Writing.{textOf, writeRefusals, writeCode, writeAnswer, writeOut}
-use Rattle.text.specs.Laws.{Named, WriteIsText, ReadThenWrite}
+use Rattle.text.specs.Laws.{Named, WriteIsText, WriteThirteenIsLast, ReadThenWrite}
 use Rattle.text.specs.declared.Converted.the-variants.{Written, Refused}
-use Rattle.text.proofs.Policies.{policy-named, named-decodes, accepts, accepted}
+use Rattle.text.proofs.Policies.{policy-named, named-decodes, accepts, accepted, short, shortened}
 use Rattle.text.proofs.Opened.{term-of-text, by-words}
 
 -- ── an answer ──
@@ -79,7 +79,26 @@ write-is-text users roles ws n k = (to, back)
         → writeAnswer users roles ws n ≡ Written k
     back (φ, p, e, h) = write-answers users roles ws φ p n h ∙ ap Written (sym e)
 
+pub write-thirteen-is-last : WriteThirteenIsLast
+unfolding writeRefusals
+write-thirteen-is-last users roles ws n = (to, back)
+  where
+    to : writeCode users roles ws n ≡ OUTPUT → (φ : Term) × IsPolicy users roles ws φ × (n < length (policyText φ))
+    to e =
+        let (r, h) = shortened users roles ws n (length (textOf ws)) e in
+        (r .0, r .1, rw (text-of-policy users roles ws (r .0) (r .1)) at h)
+
+    back : ((φ : Term) × IsPolicy users roles ws φ × (n < length (policyText φ))) → writeCode users roles ws n ≡ OUTPUT
+    back (φ, p, h) = short users roles ws n (length (textOf ws)) φ p (rw (text-of-policy users roles ws φ p) h)
+
 -- ── what is read ──
+-- an accepted policy whose words are those of φ is φ
+only : (users roles : ℕ) (φ ψ : Term) → Named φ → IsPolicy users roles (encode φ) ψ → IsPolicy users roles (encode φ) φ
+only users roles φ ψ d p =
+    let one : some ψ ≡ some φ = sym (decode-is-term users roles (encode φ) ψ p) ∙ named-decodes φ d in
+    let same : ψ ≡ φ = cc in
+    rw same at p
+
 -- the text of an accepted policy
 pub read-policy : (users roles : ℕ) (t : List ℕ) (n k : ℕ) → readAnswer users roles t n ≡ Written k
     → (φ : Term) × IsPolicy users roles (encode φ) φ × (t ≡ policyText φ) × (k ≡ size φ) × (size φ ≤ n)
@@ -88,10 +107,17 @@ read-policy users roles t n k e =
     let (c, l) = was-written users roles (wordsOf (termOf t)) (length (wordsOf (termOf t))) (readCode users roles t n) k e in
     let (φ, d, q, w) = by-words users roles t n (omega arith) in
     let (r, h) = accepted users roles (encode φ) n (length (encode φ)) (sym w ∙ c) in
-    let one : some (r .0) ≡ some φ = sym (decode-is-term users roles (encode φ) (r .0) (r .1)) ∙ named-decodes φ d in
-    let same : r .0 ≡ φ = cc in
     let words : termOf t ≡ some φ = ap termOf q ∙ term-of-text φ d in
-    (φ, rw same at (r .1), q, sym l ∙ ap (λ (o : Option Term). length (wordsOf o)) words ∙ encode-length φ, rw (encode-length φ) at h)
+    (φ, only users roles φ (r .0) d (r .1), q, sym l ∙ ap (λ (o : Option Term). length (wordsOf o)) words ∙ encode-length φ, rw (encode-length φ) at h)
+
+-- the same, where the output is too short for its words
+pub read-short : (users roles : ℕ) (t : List ℕ) (n : ℕ) → readCode users roles t n ≡ OUTPUT
+    → (φ : Term) × IsPolicy users roles (encode φ) φ × (t ≡ policyText φ) × (n < size φ)
+unfolding wordRefusals
+read-short users roles t n e =
+    let (φ, d, q, w) = by-words users roles t n (omega arith) in
+    let (r, h) = shortened users roles (encode φ) n (length (encode φ)) (sym w ∙ e) in
+    (φ, only users roles φ (r .0) d (r .1), q, rw (encode-length φ) at h)
 
 -- its words, at the start of the output
 pub read-out : (users roles : ℕ) (φ : Term) (out : List ℕ) → Named φ → readCode users roles (policyText φ) (length out) ≡ ACCEPTED

@@ -10,6 +10,7 @@ pub mod Converting
 pub mod Opened
 pub mod Answers
 pub mod Returns
+pub mod Refusing
 -- Helpers of the crates above.
 pub mod Putting
 -- Examples.

@@ -1,37 +1,28 @@
 -- The numbers of a reading: 20 and 21 by the text, every other by the words.
 use mathlib.Core.Path.{_≡_, refl, sym, ap, _∙_}
 use mathlib.Core.Logic.{_⊎_, inl, inr, _↔_}
-use mathlib.Core.Bool.{Bool, true, false, So, not, _||_, cond, or-false, false≢true, true≢false}
-use mathlib.Core.List.{List, [], _∷_, _++_}
+use mathlib.Core.Bool.{Bool, true, false, So, not, _||_, cond, false≢true, true≢false}
+use mathlib.Core.List.{List, [], _++_}
 use mathlib.Core.Option.{Option, some, none}
 use Prim.Native.Nat.{ℕ, _≤_, _<_}
 use native.Mathlib.Omega.{arith}
 use borrow.Author.Tests.{lt-ltb, le-ltb, ltb-true}
 use lib.Dec.{ltb, eqb}
 use lib.ListN.{length}
-use Rattle.soda.specs.Lists.{all}
 use Rattle.soda.specs.Terms.{Term}
 use Rattle.soda.specs.Words.{encode}
-use Rattle.soda.proofs.Bools.{by-test, not-so, and-split, or-split, or-left, or-right}
-use Rattle.policy.specs.Codes.{ACCEPTED, TERM, OPENING, TEXT}
-use Rattle.policy.specs.Refusals.{Refusals, code}
+use Rattle.soda.proofs.Bools.{by-test, not-so, or-split, or-left, or-right}
+use Rattle.policy.specs.Codes.{TERM, OPENING, TEXT}
+use Rattle.policy.specs.Refusals.{code}
 use Rattle.text.specs.Texts.{opening, text, policyText}
 use Rattle.text.specs.Grammar.{isFound, behind, parse}
 use Rattle.text.specs.Reading.{limit, termOf, wordsOf, wordRefusals, readRefusals, readCode}
 use Rattle.text.specs.Laws.{Named, TwentyIsNoOpening, TwentyOneIsNoTerm, ReadIsWords, NeverThree, WordsHaveNeither}
 use Rattle.text.proofs.Beginnings.{behind-some}
 use Rattle.text.proofs.Parsing.{parse-is-text}
-use Rattle.text.proofs.Policies.{named-decodes}
+use Rattle.text.proofs.Policies.{code-keeps, named-decodes}
 
 -- ── the words ──
--- what holds of acceptance, and of the number of each refusal that applies, holds of the code
-code-keeps : (P : ℕ → Bool) (l : Refusals) → So (P ACCEPTED) → So (all (λ r. P (r .1) || not (r .0)) l) → So (P (code l))
-code-keeps P [] h a = h
-code-keeps P ((true, k) ∷ l) h a =
-    let (x, y) = and-split (P k || false) (all (λ r. P (r .1) || not (r .0)) l) a in
-    sym (or-false (P k)) ∙ x
-code-keeps P ((false, k) ∷ l) h a = code-keeps P l h (and-split (P k || true) (all (λ r. P (r .1) || not (r .0)) l) a .1)
-
 pub words-have-neither : WordsHaveNeither
 unfolding wordRefusals
 words-have-neither users roles ws n =

@@ -1,23 +1,23 @@
 -- What is read is the text of an accepted policy, each of which is short enough; reading what was written gives the words back.
 use mathlib.Core.Path.{_≡_, sym, ap, _∙_}
 use mathlib.Core.List.{List, [], _++_}
-use Prim.Native.Nat.{ℕ, _≤_}
+use Prim.Native.Nat.{ℕ, _≤_, _<_}
 use native.Mathlib.Omega.{arith}
 use lib.ListN.{length, drop}
 use Rattle.soda.specs.Terms.{Term, size}
 use Rattle.soda.specs.Words.{encode}
 use Rattle.soda.proofs.Words.{encode-length}
-use Rattle.policy.specs.Codes.{ACCEPTED}
+use Rattle.policy.specs.Codes.{ACCEPTED, OUTPUT}
 use Rattle.policy.specs.Refusals.{code}
 use Rattle.policy.specs.Accepted.{IsPolicy}
 use Rattle.text.specs.Texts.{policyText}
 use Rattle.text.specs.Reading.{termOf, wordsOf, wordRefusals, readCode, readAnswer, readOut}
-use Rattle.text.specs.Laws.{ReadIsText, WriteThenRead, WrittenHasText}
+use Rattle.text.specs.Laws.{ReadIsText, ReadThirteenIsLast, WriteThenRead, WrittenHasText}
 use Rattle.text.specs.declared.Converted.the-variants.{Written}
-use Rattle.text.proofs.Policies.{policy-named, accepts}
+use Rattle.text.proofs.Policies.{policy-named, accepts, short}
 use Rattle.text.proofs.Lengths.{text-fits}
 use Rattle.text.proofs.Opened.{term-of-text, read-is-words}
-use Rattle.text.proofs.Answers.{is-written, write-is-text, written-text, read-policy, read-out}
+use Rattle.text.proofs.Answers.{is-written, write-is-text, written-text, read-policy, read-short, read-out}
 
 module _ (users roles : ℕ) (ws : List ℕ) (φ : Term) (p : IsPolicy users roles ws φ) where
   -- the words decide, whatever the counts and the output
@@ -38,6 +38,15 @@ module _ (users roles : ℕ) (ws : List ℕ) (φ : Term) (p : IsPolicy users rol
 
   read-lays : (out : List ℕ) → length ws ≤ length out → readOut users roles (policyText φ) out ≡ ws ++ drop (length ws) out
   read-lays out h = read-out users roles φ out (policy-named users roles ws φ p) (read-accepts (length out) h) ∙ rw (p .written)
+
+pub read-thirteen-is-last : ReadThirteenIsLast
+unfolding wordRefusals
+read-thirteen-is-last users roles t n = (read-short users roles t n, back)
+  where
+    back : ((φ : Term) × IsPolicy users roles (encode φ) φ × (t ≡ policyText φ) × (n < size φ)) → readCode users roles t n ≡ OUTPUT
+    back (φ, p, q, h) =
+        ap (λ (s : List ℕ). readCode users roles s n) q ∙ read-words users roles (encode φ) φ p users roles n
+        ∙ short users roles (encode φ) n (length (encode φ)) φ p (omega (arith, encode-length φ))
 
 pub read-is-text : ReadIsText
 read-is-text users roles t n k = (read-policy users roles t n k, back)

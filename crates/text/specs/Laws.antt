@@ -1,6 +1,6 @@
 -- What is proved of texts (document 02, E7): reading and writing are inverse. Statements only.
 use mathlib.Core.Path.{_≡_}
-use mathlib.Core.Logic.{_↔_, _⊎_}
+use mathlib.Core.Logic.{_≢_, _↔_, _⊎_}
 use mathlib.Core.Bool.{So}
 use mathlib.Core.List.{List, _++_}
 use mathlib.Core.Option.{some}
@@ -8,14 +8,17 @@ use Prim.Native.Nat.{ℕ, zero, suc, _-_, _^_, _≤_, _<_}
 use lib.ListN.{length, take, drop}
 use Rattle.soda.specs.Terms.{Term, set, _⊗_, size}
 use Rattle.soda.specs.Words.{encode, declared}
-use Rattle.policy.specs.Codes.{TERM, OPENING, TEXT}
+use Rattle.policy.specs.Codes.{ACCEPTED, TERM, OPENING, TEXT, OUTPUT}
 use Rattle.policy.specs.Refusals.{code}
+use Rattle.policy.specs.Reading.{readPolicy}
 use Rattle.policy.specs.Accepted.{IsPolicy}
+use Rattle.policy.specs.declared.Code.{Code}
+use Rattle.policy.specs.declared.PolicyRead.the-variants as policy
 use Rattle.text.specs.Texts.{opening, text, policyText}
 use Rattle.text.specs.Grammar.{parse}
-use Rattle.text.specs.Reading.{limit, wordRefusals, readCode, readAnswer, readOut}
-use Rattle.text.specs.Writing.{writeAnswer, writeOut}
-use Rattle.text.specs.declared.Converted.the-variants.{Written}
+use Rattle.text.specs.Reading.{wordRefusals, readCode, readAnswer, readOut}
+use Rattle.text.specs.Writing.{writeCode, writeAnswer, writeOut}
+use Rattle.text.specs.declared.Converted.the-variants.{Written, Refused}
 
 -- ── texts and terms ──
 -- A term has a text of its own where its numbers are at most 15 and no set is empty.
@@ -61,6 +64,17 @@ WriteIsText =
     → (writeAnswer users roles ws n ≡ Written k)
     ↔ ((φ : Term) × IsPolicy users roles ws φ × (k ≡ length (policyText φ)) × (length (policyText φ) ≤ n))
 
+-- 13 comes last of all: it is given exactly for an accepted policy for which the output is too short.
+abbrev pub ReadThirteenIsLast : Type 0
+ReadThirteenIsLast =
+    (users roles : ℕ) (t : List ℕ) (n : ℕ)
+    → (readCode users roles t n ≡ OUTPUT) ↔ ((φ : Term) × IsPolicy users roles (encode φ) φ × (t ≡ policyText φ) × (n < size φ))
+
+abbrev pub WriteThirteenIsLast : Type 0
+WriteThirteenIsLast =
+    (users roles : ℕ) (ws : List ℕ) (n : ℕ)
+    → (writeCode users roles ws n ≡ OUTPUT) ↔ ((φ : Term) × IsPolicy users roles ws φ × (n < length (policyText φ)))
+
 -- 20 is given exactly where the opening bytes are missing ..
 abbrev pub TwentyIsNoOpening : Type 0
 TwentyIsNoOpening =
@@ -71,16 +85,37 @@ abbrev pub TwentyOneIsNoTerm : Type 0
 TwentyOneIsNoTerm =
     (users roles : ℕ) (t : List ℕ) (n : ℕ)
     → (readCode users roles t n ≡ TEXT)
-    ↔ ((rest : List ℕ) × (t ≡ opening ++ rest) × ((limit < length t) ⊎ ((φ : Term) → rest ≡ text φ → Named φ → ⊥)))
+    ↔ ((rest : List ℕ) × (t ≡ opening ++ rest) × ((1024 < length t) ⊎ ((φ : Term) → rest ≡ text φ → Named φ → ⊥)))
 
 -- .. and every other text gets the number of its words: an undeclared number, up to 15, is 2; 3 never occurs.
 abbrev pub ReadIsWords : Type 0
 ReadIsWords =
-    (users roles : ℕ) (φ : Term) (n : ℕ) → Named φ → length (policyText φ) ≤ limit
+    (users roles : ℕ) (φ : Term) (n : ℕ) → Named φ → length (policyText φ) ≤ 1024
     → readCode users roles (policyText φ) n ≡ code (wordRefusals users roles (encode φ) n)
 
 abbrev pub NeverThree : Type 0
 NeverThree = (users roles : ℕ) (t : List ℕ) (n : ℕ) → readCode users roles t n ≡ TERM → ⊥
+
+-- ── refusals ──
+-- A policy that is refused is told as reading its words tells it, number and place, before 13 is asked for ..
+abbrev pub ReadTellsFault : Type 0
+ReadTellsFault =
+    (users roles : ℕ) (φ : Term) (c : Code) (out : List ℕ) → Named φ → length (policyText φ) ≤ 1024 → readPolicy users roles (encode φ) ≡ policy.Refused c
+    → readAnswer users roles (policyText φ) (length out) ≡ Refused c
+
+abbrev pub WriteTellsFault : Type 0
+WriteTellsFault =
+    (users roles : ℕ) (ws : List ℕ) (c : Code) (out : List ℕ) → readPolicy users roles ws ≡ policy.Refused c
+    → writeAnswer users roles ws (length out) ≡ Refused c
+
+-- .. and a refusal leaves all of the output.
+abbrev pub ReadRefusalKeeps : Type 0
+ReadRefusalKeeps =
+    (users roles : ℕ) (t out : List ℕ) → readCode users roles t (length out) ≢ ACCEPTED → readOut users roles t out ≡ out
+
+abbrev pub WriteRefusalKeeps : Type 0
+WriteRefusalKeeps =
+    (users roles : ℕ) (ws out : List ℕ) → writeCode users roles ws (length out) ≢ ACCEPTED → writeOut users roles ws out ≡ out
 
 -- ── there and back ──
 -- "writing then reading, and reading then writing, change nothing": what was written is read as the same words ..
