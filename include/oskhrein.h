@@ -316,8 +316,9 @@ uint8_t oskhrein_enabled(const struct oskhrein_monitor *monitor, uint8_t action,
  *
  * Leaves in *place the place of a policy's fault, as oskhrein_open does. Any other answer leaves it as it was.
  *
- * Leaves the workspace filled for the multiset's actions, in some order of them; a refusal leaves it as it was. words, rows and counts
- * are only read.
+ * Leaves the workspace filled for the multiset's actions, numbered by ascending user: action 0 is by the lowest user who occurs, and those
+ * of one user are next to each other. So the same question leaves the same 8,192 words, whatever they held. A refusal leaves the
+ * workspace as it was. words, rows and counts are only read.
  */
 uint8_t oskhrein_satisfies(uint8_t users, uint8_t roles, const uint32_t *words, size_t n_words, const uint16_t *rows, size_t n_rows,
                            const uint8_t counts[OSKHREIN_MAX_USERS], uint32_t *workspace, size_t n_workspace, uint8_t *place);

@@ -112,8 +112,9 @@ use raw::Calls;
 /// Whether a multiset of users satisfies a policy: user u occurs `counts[u]` times. The empty
 /// multiset does not. Permissions and a workflow play no part.
 ///
-/// After a yes or a no the workspace speaks of the multiset's actions, in an order that is not
-/// promised.
+/// After a yes or a no the workspace speaks of the multiset's actions, numbered by ascending user:
+/// action 0 is by the lowest user who occurs, and those of one user are next to each other. So the
+/// same question leaves equal workspaces.
 ///
 /// # Errors
 /// The first that applies of the refusals of [`Monitor::open`], in its order,
@@ -134,6 +135,22 @@ use raw::Calls;
 /// assert_eq!(oskhrein::satisfies(2, 1, apart, &[1, 1], &counts, &mut workspace), Ok(false));
 /// counts[..2].copy_from_slice(&[1, 1]);
 /// assert_eq!(oskhrein::satisfies(2, 1, apart, &[1, 1], &counts, &mut workspace), Ok(true));
+/// # Ok::<(), oskhrein::Refusal>(())
+/// ```
+///
+/// User 0 twice and user 2 once: actions 0 and 1 are by user 0, action 2 is by user 2. Role 0
+/// apart from role 1 is satisfied by action 0 with action 2, but not by action 0 with action 1:
+///
+/// ```
+/// use oskhrein::Term;
+///
+/// let apart = Term::apart(Term::role(0)?, Term::role(1)?)?;
+/// let mut workspace = oskhrein::Workspace::new();
+/// let mut counts = [0; oskhrein::MAX_USERS];
+/// (counts[0], counts[2]) = (2, 1);
+/// oskhrein::satisfies(3, 2, apart.words(), &[1, 1, 2], &counts, &mut workspace)?;
+/// assert_eq!(workspace.satisfied(0b101) & 1, 1);
+/// assert_eq!(workspace.satisfied(0b011) & 1, 0);
 /// # Ok::<(), oskhrein::Refusal>(())
 /// ```
 pub fn satisfies(

@@ -1,67 +1,36 @@
--- The multiset test is Definition 3: what it notes of its users is what the algebra notes of them.
-use mathlib.Core.Path.{_≡_, refl, sym, _∙_, ap, ap₂, subst₂, fun-ext}
+-- The multiset test is Definition 3: what it notes of its users is what the algebra notes of them. The workspace has their actions in
+-- order.
+use mathlib.Core.Path.{_≡_, refl, sym, _∙_, ap, subst₂, fun-ext}
 use mathlib.Core.Logic.{_↔_}
 use mathlib.Core.Bool.{Bool, true, false, So, not, cond}
 use mathlib.Core.List.{List, [], _∷_, _++_, map}
-use Prim.Native.Nat.{ℕ, zero, suc, _+_, _≤_, _<_}
-use native.Mathlib.Nat.{zero-add, add-zero}
+use Prim.Native.Nat.{ℕ, zero, suc, _^_, _≤_, _<_}
 use native.Mathlib.Omega.{arith}
 use lib.Dec.{ltb, eqb}
-use lib.ListN.{getD, drop, replicate}
-use borrow.Author.Tests.{ltb-false, le-ltb, eq-eqb, ne-eqb, not-false}
+use lib.ListN.{length, getD, drop, length-append, length-map, List·getD-append}
+use lib.Pow.{pow-mono}
+use borrow.Author.Tests.{ltb-false, le-ltb, ne-eqb, not-false}
 use Rattle.soda.specs.Lists.{all}
+use Rattle.soda.specs.Terms.{Term}
 use Rattle.soda.specs.Tables.{satisfied, note}
 use Rattle.soda.specs.Roles.{roles}
-use Rattle.soda.specs.Multisets.{multiset, SatM}
+use Rattle.soda.specs.Multisets.{SatM}
 use Rattle.soda.specs.Traces.{execution}
 use Rattle.soda.proofs.Bools.{never, and-split, and-join, so-eq, eq-so}
 use Rattle.soda.proofs.Accuracy.{satisfied-is-users}
+use Rattle.soda.specs.declared.Action.{Action}
 use Rattle.policy.specs.Codes.{MALFORMED, FULL}
 use Rattle.policy.specs.Refusals.{Refusals, _gives_}
 use Rattle.policy.proofs.Refusals.{clear, clear-code, clear-front, clear-behind, code-behind}
+use Rattle.workspace.specs.Workspace.{column, tableOf, filled}
+use Rattle.workspace.proofs.Columns.{column-length}
 use Rattle.configuration.specs.Configurations.{isZero}
 use Rattle.monitor.specs.Monitors.{Opening, policy, openRefusals, openCode}
-use Rattle.multiset.specs.MultisetTest.{total, listed, notedBy, unordered, testRefusals, testCode, letterY, letterN, testOf}
-use Rattle.claims.specs.Accuracy.{Testable, Counted, TestIsMultiset}
+use Rattle.multiset.specs.MultisetTest.{total, listed, notedBy, actionsOf, unordered, testRefusals, testCode, letterY, letterN, testOf, testWorkspace}
+use Rattle.multiset.proofs.Listed.{listed-length}
+use Rattle.multiset.proofs.Ascending.{counted-users, listed-is-ascending}
+use Rattle.claims.specs.Accuracy.{Testable, Counted, TestIsMultiset, TestFillsAscending, TestLeavesSameWords}
 use Rattle.claims.proofs.Follows.{formed-policy, noted-is-note}
-
--- ── the multiset in which each user has its count ──
-multiset-append : (s t : List ℕ) (v : ℕ) → multiset (s ++ t) v ≡ multiset s v + multiset t v
-multiset-append [] t v = sym (zero-add (multiset t v))
-multiset-append (u ∷ s) t v = let e = multiset-append s t v in omega arith
-
-multiset-replicate : (n u v : ℕ) → multiset (replicate n u) v ≡ cond (eqb u v) n 0
-multiset-replicate n u v = go (eqb u v) refl n
-  where
-    go : (b : Bool) → eqb u v ≡ b → (n : ℕ) → multiset (replicate n u) v ≡ cond b n 0
-    go true e zero = refl
-    go true e (suc n) = let k = go true e n in rw e (omega arith)
-    go false e zero = refl
-    go false e (suc n) = let k = go false e n in rw e (omega arith)
-
--- the first count is that of user u: no user below it occurs, and the k-th behind it as often as the k-th count says
-none-below : (l : List ℕ) (u v : ℕ) → v < u → multiset (listed u l) v ≡ 0
-none-below [] u v h = refl
-none-below (n ∷ l) u v h =
-    multiset-append (replicate n u) (listed (suc u) l) v
-    ∙ ap₂ (λ x y. x + y) (multiset-replicate n u v ∙ ap (λ b. cond b n 0) (ne-eqb u v (λ e. omega arith))) (none-below l (suc u) v (omega arith))
-
-counted-at : (l : List ℕ) (u k : ℕ) → multiset (listed u l) (u + k) ≡ getD l k 0
-counted-at [] u k = refl
-counted-at (n ∷ l) u zero =
-    let e : u ≡ u + 0 = omega arith in
-    multiset-append (replicate n u) (listed (suc u) l) (u + 0)
-    ∙ ap₂ (λ x y. x + y) (multiset-replicate n u (u + 0) ∙ ap (λ b. cond b n 0) (eq-eqb u (u + 0) e)) (none-below l (suc u) (u + 0) (omega arith))
-    ∙ add-zero n
-counted-at (n ∷ l) u (suc k) =
-    let e : u + suc k ≡ suc u + k = omega arith in
-    multiset-append (replicate n u) (listed (suc u) l) (u + suc k)
-    ∙ ap₂ (λ x y. x + y) (multiset-replicate n u (u + suc k) ∙ ap (λ b. cond b n 0) (ne-eqb u (u + suc k) (λ z. omega arith)))
-    (ap (multiset (listed (suc u) l)) e ∙ counted-at l (suc u) k)
-    ∙ zero-add (getD l k 0)
-
-counted-users : (counts : List ℕ) → multiset (listed 0 counts) ≡ (λ u. getD counts u 0)
-counted-users counts = fun-ext (λ u. ap (multiset (listed 0 counts)) (sym (zero-add u)) ∙ counted-at counts 0 u)
 
 -- ── when the test is not refused ──
 zero-from : (l : List ℕ) (n u : ℕ) → So (all isZero (drop n l)) → n ≤ u → getD l u 0 ≡ 0
@@ -101,7 +70,7 @@ module _ (o : Opening) (counts : List ℕ) (n : ℕ) where
       rw (le-ltb n 8192 (t .long)) (code-behind (openRefusals (unordered o)) own (clear (openRefusals (unordered o)) refl (t .opens)) ∙ rw (d, le-ltb 12 (total counts) (t .few)))
 
 -- what the test's judgement says
-judged : (o : Opening) → openCode (unordered o) ≡ 0 → (counts : List ℕ) → So (satisfied (policy o) 0 (map (notedBy o) (listed 0 counts))) ↔ Counted o counts
+judged : (o : Opening) → openCode (unordered o) ≡ 0 → (counts : List ℕ) → So (satisfied (policy o) 0 (actionsOf o counts)) ↔ Counted o counts
 judged o z counts =
     subst₂ (λ f U. So (satisfied (policy o) 0 (map f (listed 0 counts))) ↔ SatM (o .rows) U (policy o)) (sym same-notes) (counted-users counts)
     (satisfied-is-users (policy o) (formed-policy (unordered o) z) (o .rows) (listed 0 counts))
@@ -123,5 +92,34 @@ letters false s h k = ((λ e. absurd (omega arith), λ e. never (h .1 (e .0))), 
 pub test-is-multiset : TestIsMultiset
 unfolding testOf
 test-is-multiset o counts n =
-    letters (eqb (testCode o counts n) 0) (satisfied (policy o) 0 (map (notedBy o) (listed 0 counts)))
+    letters (eqb (testCode o counts n) 0) (satisfied (policy o) 0 (actionsOf o counts))
     (λ e. testable o counts n (so-eq (testCode o counts n) 0 e), λ t. eq-so (testCode o counts n) 0 (unrefused o counts n t)) (λ t. judged o (t .opens) counts)
+
+-- ── what it leaves in the workspace ──
+tested : (o : Opening) (counts before : List ℕ) → Testable o counts (length before) → testWorkspace o counts before ≡ filled (policy o) (actionsOf o counts) before
+unfolding testWorkspace
+tested o counts before t = rw (unrefused o counts (length before) t)
+
+pub test-fills-ascending : TestFillsAscending
+unfolding testWorkspace
+test-fills-ascending o counts before users h e =
+    let order : users ≡ listed 0 counts = listed-is-ascending counts users .1 (h, e) in (
+      λ t. tested o counts before t ∙ ap (λ l. filled (policy o) (map (notedBy o) l) before) (sym order),
+      λ t. rw (ne-eqb (testCode o counts (length before)) 0 (λ z. t (testable o counts (length before) z))),
+    )
+
+-- a word of the table, whatever stands behind it
+table-word : (φ : Term) (l : List Action) (before : List ℕ) (k : ℕ) → length l ≤ 12 → k < 8192 → getD (filled φ l before) k 0 ≡ getD (tableOf φ l) k 0
+unfolding filled tableOf
+table-word φ l before k few h =
+    let cap : 2 ^ length l ≤ 4096 = pow-mono {j = 12} few in
+    List·getD-append (column false φ l ++ column true φ l) (drop 8192 before) 0 k
+    (omega (arith, length-append (column false φ l) (column true φ l), column-length φ l cap false, column-length φ l cap true))
+
+pub test-leaves-same-words : TestLeavesSameWords
+test-leaves-same-words o counts one other k s t h = word one s ∙ sym (word other t)
+  where
+    word : (before : List ℕ) → Testable o counts (length before) → getD (testWorkspace o counts before) k 0 ≡ getD (tableOf (policy o) (actionsOf o counts)) k 0
+    word before t =
+        ap (λ (l : List ℕ). getD l k 0) (tested o counts before t)
+        ∙ table-word (policy o) (actionsOf o counts) before k (omega (arith, length-map (listed 0 counts) (notedBy o), listed-length 0 counts, t .few)) h

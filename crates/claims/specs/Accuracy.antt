@@ -5,16 +5,17 @@
 use mathlib.Core.Path.{_≡_}
 use mathlib.Core.Logic.{_↔_}
 use mathlib.Core.Bool.{Bool, true, false, So, not, cond}
-use mathlib.Core.List.{List, [], _∷_, _++_}
-use Prim.Native.Nat.{ℕ, _+_, _≤_}
-use lib.Dec.{ltb}
-use lib.ListN.{getD}
-use Rattle.soda.specs.Lists.{any}
-use Rattle.soda.specs.Multisets.{SatM}
+use mathlib.Core.List.{List, [], _∷_, _++_, map}
+use Prim.Native.Nat.{ℕ, _+_, _≤_, _<_}
+use lib.Dec.{leb, ltb}
+use lib.ListN.{length, getD}
+use Rattle.soda.specs.Lists.{any, ascending}
+use Rattle.soda.specs.Multisets.{multiset, SatM}
 use Rattle.soda.specs.Traces.{admin, Trace, businessOnly, users, SatT}
 use Rattle.soda.specs.Csp.{Accepts}
 use Rattle.soda.specs.Processes.{Symbol, event, done, P, isDone, body, SOD, W, RBAC, SSW, withoutAdmin, withoutDone}
 use Rattle.policy.specs.Codes.{ACCEPTED, FULL, NOT-AUTHORIZED, NO-TRANSITION}
+use Rattle.workspace.specs.Workspace.{filled}
 use Rattle.monitor.specs.declared.Monitor.{Monitor}
 use Rattle.monitor.specs.declared.Event.{Event}
 use Rattle.monitor.specs.declared.Event.the-variants.{Acts, Grants, Revokes, Closes, Malformed}
@@ -23,7 +24,7 @@ use Rattle.instance.specs.Letters.{letterD, letterC, letterO}
 use Rattle.monitor.specs.Events.{readEvent, isMalformed, isShort, eventCode}
 use Rattle.monitor.specs.Statuses.{statusLetter}
 use Rattle.monitor.specs.Runs.{Lengths, Step, run, final, isAction}
-use Rattle.multiset.specs.MultisetTest.{total, letterY, letterN, unordered, testOf}
+use Rattle.multiset.specs.MultisetTest.{total, notedBy, letterY, letterN, unordered, testOf, testWorkspace}
 use Rattle.claims.specs.Runs.{symbolOf, accepted}
 use Rattle.claims.specs.Ordered.{isOrdered, permissionsOf, ordering, finals, mayEnd}
 
@@ -177,3 +178,17 @@ TestIsMultiset =
     (o : Opening) (counts : List ℕ) (n : ℕ)
     → ((testOf o counts n .letter ≡ letterY) ↔ (Testable o counts n × Counted o counts))
     × ((testOf o counts n .letter ≡ letterN) ↔ (Testable o counts n × (Counted o counts → ⊥)))
+
+-- 02, E8: "a bag's actions are numbered by ascending person". In the one list of users that ascends and has each as often as its count says
+-- (`ListedIsAscending` of multiset), action j is by the user at place j: for these the workspace is filled where the input is such. Else it is as it was.
+abbrev pub TestFillsAscending : Type 0
+TestFillsAscending =
+    (o : Opening) (counts before users : List ℕ) → So (ascending leb users) → multiset users ≡ (λ u. getD counts u 0)
+    → (Testable o counts (length before) → testWorkspace o counts before ≡ filled (policy o) (map (notedBy o) users) before)
+    × ((Testable o counts (length before) → ⊥) → testWorkspace o counts before ≡ before)
+
+-- "Partner houses compare rooms": the same question leaves the same 8,192 words, whatever two workspaces held.
+abbrev pub TestLeavesSameWords : Type 0
+TestLeavesSameWords =
+    (o : Opening) (counts one other : List ℕ) (k : ℕ) → Testable o counts (length one) → Testable o counts (length other) → k < 8192
+    → getD (testWorkspace o counts one) k 0 ≡ getD (testWorkspace o counts other) k 0

@@ -9,7 +9,7 @@ ghost use Rattle.text.specs.Writing.{writeCode, writeAnswer, writeOut};
 ghost use Rattle.monitor.specs.Monitors.{given, bare};
 ghost use Rattle.monitor.specs.Events.{outcome};
 ghost use Rattle.monitor.specs.Statuses.{statusOf, statusNumber, letter};
-ghost use Rattle.multiset.specs.MultisetTest.{testOf, verdictCode, verdictLetter, Numbered};
+ghost use Rattle.multiset.specs.MultisetTest.{testOf, verdictCode, verdictLetter, testWorkspace};
 ghost use Rattle.embed.specs.Bytes.{byteOf, statusByte, verdictByte};
 ghost use Rattle.embed.specs.Lent.{placeLeft, openingLent, enabledLent, conversionCode, lengthLeft, LengthLent};
 ghost use Rattle.embed.specs.Versions.{version, layout};
@@ -159,7 +159,7 @@ pub extern "C" fn oskhrein_satisfies(
     workspace: &mut [u32],
     place: &mut u8,
 ) -> u8
-    ensures { λ r. ⌜ (r ≡ verdictByte (testOf (bare users roles (now (words .entry)) (now (rows .entry))) (now (counts .entry)) (length (now (workspace .entry))))) × (now (place .exit) ≡ placeLeft (testOf (bare users roles (now (words .entry)) (now (rows .entry))) (now (counts .entry)) (length (now (workspace .entry))) .code) (now (place .entry))) × Numbered (bare users roles (now (words .entry)) (now (rows .entry))) (now (counts .entry)) (now (workspace .entry)) (now (workspace .exit)) ⌝ }
+    ensures { λ r. ⌜ (r ≡ verdictByte (testOf (bare users roles (now (words .entry)) (now (rows .entry))) (now (counts .entry)) (length (now (workspace .entry))))) × (now (place .exit) ≡ placeLeft (testOf (bare users roles (now (words .entry)) (now (rows .entry))) (now (counts .entry)) (length (now (workspace .entry))) .code) (now (place .entry))) × (now (workspace .exit) ≡ testWorkspace (bare users roles (now (words .entry)) (now (rows .entry))) (now (counts .entry)) (now (workspace .entry))) ⌝ }
 {
     let verdict = multiset::satisfies(users, roles, words, rows, *counts, workspace);
     verdict_byte(verdict, place)

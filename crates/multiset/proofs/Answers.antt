@@ -10,6 +10,7 @@ use lib.ListN.{length, drop, length-map}
 use borrow.Author.Tests.{ne-eqb}
 use Rattle.soda.specs.Lists.{all}
 use Rattle.soda.specs.Tables.{satisfied}
+use Rattle.soda.proofs.Bools.{lt-so}
 use Rattle.soda.proofs.Splits.{all-map}
 use Rattle.soda.specs.declared.Action.{Action}
 use Rattle.policy.specs.Codes.{UNIT, MALFORMED, FULL}
@@ -26,12 +27,12 @@ use Rattle.configuration.specs.Configurations.{isZero}
 use Rattle.monitor.specs.Monitors.{Opening, policy, openRefusals, openCode, codeIn}
 use Rattle.configuration.proofs.Formed.{one-each}
 use Rattle.monitor.proofs.Formed.{opened-rows-ok, opened-is-policy}
-use Rattle.multiset.specs.MultisetTest.{verdictCode, verdictLetter, total, listed, notedBy, unordered, testRefusals, testCode, testOf, Numbered}
+use Rattle.multiset.specs.MultisetTest.{verdictCode, verdictLetter, total, listed, notedBy, actionsOf, unordered, testRefusals, testCode, testOf, testWorkspace}
 use Rattle.multiset.specs.Private.{Counted, used, Holds, Fillable}
 use Rattle.multiset.specs.declared.Actions.{Actions}
 use Rattle.multiset.specs.declared.Verdict.{Verdict}
 use Rattle.multiset.specs.declared.Verdict.the-variants.{Yes, No, Refused}
-use Rattle.multiset.proofs.Listed.{listed-length, listed-below}
+use Rattle.multiset.proofs.Listed.{listed-length, listed-all}
 
 module _ (o : Opening) (counts : List ℕ) where
   -- ── a multiset's actions, where the opening is accepted ──
@@ -51,7 +52,7 @@ module _ (o : Opening) (counts : List ℕ) where
       number = h .number ∙ length-map (listed 0 counts) (notedBy o) ∙ listed-length 0 counts
 
       known : length counts ≡ 16 → So (all (λ (x : Action). ltb (x .user) 16) (used a))
-      known n = rw (h .are) (rw (all-map (notedBy o) (λ x. ltb (x .user) 16) (listed 0 counts)) (listed-below 16 0 counts (omega arith)))
+      known n = rw (h .are) (rw (all-map (notedBy o) (λ x. ltb (x .user) 16) (listed 0 counts)) (listed-all (λ v. ltb v 16) 16 0 counts (omega arith) (λ v p q. lt-so v 16 q)))
 
       pub fillable : (before : List ℕ) → length counts ≡ 16 → 8192 ≤ length before → Fillable (o .words) a before
       fillable before n long =
@@ -81,25 +82,21 @@ module _ (o : Opening) (counts : List ℕ) where
 
     -- ── what the test answers ──
     abbrev pub Answered : Verdict → List ℕ → Type 0
-    Answered r after = (record { code = verdictCode r; letter = verdictLetter r } ≡ testOf o counts (length before)) × Numbered o counts before after
+    Answered r after = (record { code = verdictCode r; letter = verdictLetter r } ≡ testOf o counts (length before)) × (after ≡ testWorkspace o counts before)
 
     pub refused-test : (c : Code) (k : ℕ) → k ≢ 0 → c ≡ codeIn o k → testCode o counts (length before) ≡ k → Answered (Refused c) before
-    unfolding testOf
-    refused-test c k ne d e = (rw (e, d, ne-eqb k 0 ne), record { order = listed 0 counts; same = refl; workspace = rw (e, ne-eqb k 0 ne) })
+    unfolding testOf testWorkspace
+    refused-test c k ne d e = (rw (e, d, ne-eqb k 0 ne), rw (e, ne-eqb k 0 ne))
 
     -- a number that is not the policy author's
     pub refused-plain : (k : ℕ) → UNIT < k → testCode o counts (length before) ≡ k → Answered (Refused (Plain k)) before
     refused-plain k h e = refused-test (Plain k) k (λ z. omega arith) (sym (others-have-none (o .users) (o .roles) (o .words) k (inr h))) e
 
-    module _ (after : List ℕ) (e : testCode o counts (length before) ≡ 0)
-        (f : after ≡ filled (policy o) (map (notedBy o) (listed 0 counts)) before) where
-      numbered-test : Numbered o counts before after
-      numbered-test = record { order = listed 0 counts; same = refl; workspace = rw e f }
+    module _ (after : List ℕ) (e : testCode o counts (length before) ≡ 0) (f : after ≡ filled (policy o) (actionsOf o counts) before) where
+      pub yes-test : satisfied (policy o) 0 (actionsOf o counts) ≡ true → Answered Yes after
+      unfolding testOf testWorkspace codeAt
+      yes-test s = (rw (e, s), rw e f)
 
-      pub yes-test : satisfied (policy o) 0 (map (notedBy o) (listed 0 counts)) ≡ true → Answered Yes after
-      unfolding testOf codeAt
-      yes-test s = (rw (e, s), numbered-test)
-
-      pub no-test : satisfied (policy o) 0 (map (notedBy o) (listed 0 counts)) ≡ false → Answered No after
-      unfolding testOf codeAt
-      no-test s = (rw (e, s), numbered-test)
+      pub no-test : satisfied (policy o) 0 (actionsOf o counts) ≡ false → Answered No after
+      unfolding testOf testWorkspace codeAt
+      no-test s = (rw (e, s), rw e f)

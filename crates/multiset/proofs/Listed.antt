@@ -1,15 +1,14 @@
 -- The users of a multiset, each as often as it occurs.
 use mathlib.Core.Path.{_≡_, refl, sym, ap, _∙_}
-use mathlib.Core.Bool.{So}
+use mathlib.Core.Bool.{Bool, So}
 use mathlib.Core.List.{List, [], _∷_, _++_, map, map-append}
-use Prim.Native.Nat.{ℕ, zero, suc, _+_, _≤_}
+use Prim.Native.Nat.{ℕ, zero, suc, _+_, _≤_, _<_}
 use native.Mathlib.Nat.{zero-add}
 use native.Mathlib.Omega.{arith}
-use lib.Dec.{ltb, eqb}
+use lib.Dec.{eqb}
 use lib.ListN.{length, replicate, length-append, length-replicate}
 use borrow.Author.Tests.{ne-eqb}
 use Rattle.soda.specs.Lists.{all}
-use Rattle.soda.proofs.Bools.{lt-so}
 use Rattle.soda.proofs.Splits.{split-append, all-parts, all-replicate}
 use Rattle.configuration.specs.Configurations.{isZero}
 use Rattle.multiset.specs.MultisetTest.{total, listed}
@@ -18,11 +17,11 @@ pub listed-length : (u : ℕ) (l : List ℕ) → length (listed u l) ≡ total l
 listed-length u [] = refl
 listed-length u (c ∷ l) = length-append (replicate c u) (listed (suc u) l) ∙ omega (arith, length-replicate {A = ℕ} c u, listed-length (suc u) l)
 
-pub listed-below : (b u : ℕ) (l : List ℕ) → u + length l ≤ b → So (all (λ v. ltb v b) (listed u l))
-listed-below b u [] h = refl
-listed-below b u (c ∷ l) h =
-    all-parts (λ v. ltb v b) (split-append (replicate c u) (listed (suc u) l))
-    (all-replicate (λ v. ltb v b) c u (lt-so u b (omega arith))) (listed-below b (suc u) l (omega arith))
+pub listed-all : (f : ℕ → Bool) (n u : ℕ) (l : List ℕ) → u + length l ≤ n → ((v : ℕ) → u ≤ v → v < n → So (f v)) → So (all f (listed u l))
+listed-all f n u [] h k = refl
+listed-all f n u (c ∷ l) h k =
+    all-parts f (split-append (replicate c u) (listed (suc u) l)) (all-replicate f c u (k u (omega arith) (omega arith)))
+    (listed-all f n (suc u) l (omega arith) (λ v p q. k v (omega arith) q))
 
 -- a total is zero where each count is; then nobody is listed
 pub total-zero : (l : List ℕ) → all isZero l ≡ eqb (total l) 0

@@ -1,11 +1,12 @@
 -- The multiset test (document 01: the bag test): does a multiset of users satisfy the policy by Definition 3 of document 004?
 use mathlib.Core.Path.{_≡_}
-use mathlib.Core.Bool.{Bool, not, cond}
+use mathlib.Core.Logic.{_↔_}
+use mathlib.Core.Bool.{Bool, So, not, cond}
 use mathlib.Core.List.{List, [], _∷_, _++_, map}
 use Prim.Native.Nat.{ℕ, suc, _+_}
-use lib.Dec.{ltb, eqb}
-use lib.ListN.{length, drop, replicate}
-use Rattle.soda.specs.Lists.{all}
+use lib.Dec.{leb, ltb, eqb}
+use lib.ListN.{length, getD, drop, replicate}
+use Rattle.soda.specs.Lists.{all, ascending}
 use Rattle.soda.specs.Roles.{roles}
 use Rattle.soda.specs.Tables.{satisfied}
 use Rattle.soda.specs.Multisets.{multiset}
@@ -43,7 +44,8 @@ abbrev pub total : List ℕ → ℕ
 total [] = 0
 total (k ∷ l) = k + total l
 
--- the users, each as often as it occurs; the first count is that of user u
+-- 02, E8: "a bag's actions are numbered by ascending person". The users in that order, each as often as it occurs; the first count is that
+-- of user u.
 abbrev pub listed : ℕ → List ℕ → List ℕ
 listed u [] = []
 listed u (k ∷ l) = replicate k u ++ listed (suc u) l
@@ -51,6 +53,10 @@ listed u (k ∷ l) = replicate k u ++ listed (suc u) l
 -- an action by a user, by the roles that the opening gives
 abbrev pub notedBy : Opening → ℕ → Action
 notedBy o u = noted (o .words) u (roles (o .rows) u)
+
+-- the multiset's actions, in the order of their numbers
+abbrev pub actionsOf : Opening → List ℕ → List Action
+actionsOf o counts = map (notedBy o) (listed 0 counts)
 
 -- It does not know permissions and workflow: its opening is one with neither.
 abbrev pub unordered : Opening → Opening
@@ -73,12 +79,15 @@ pub record TestOutcome : Type 0 where
 unfoldable pub testOf : Opening → List ℕ → ℕ → TestOutcome
 testOf o counts n = record {
   code = codeIn o (testCode o counts n);
-  letter = cond (eqb (testCode o counts n) 0) (cond (satisfied (policy o) 0 (map (notedBy o) (listed 0 counts))) letterY letterN) 0;
+  letter = cond (eqb (testCode o counts n) 0) (cond (satisfied (policy o) 0 (actionsOf o counts)) letterY letterN) 0;
 }
 
--- The order in which the multiset's actions are numbered is left to the program: the workspace fits some numbering. A refusal
--- leaves it as it was.
-pub record Numbered (o : Opening) (counts before after : List ℕ) : Type 0 where
-  pub order : List ℕ
-  pub same : multiset order ≡ multiset (listed 0 counts)
-  pub workspace : after ≡ cond (eqb (testCode o counts (length before)) 0) (filled (policy o) (map (notedBy o) order) before) before
+-- What it leaves in the workspace: after yes or no the words for the multiset's actions; a refusal leaves it as it was.
+unfoldable pub testWorkspace : Opening → List ℕ → List ℕ → List ℕ
+testWorkspace o counts before = cond (eqb (testCode o counts (length before)) 0) (filled (policy o) (actionsOf o counts) before) before
+
+-- ── what is proved of it ──
+-- The users are listed so: ascending, and each as often as its count says. No other list of users is; those of one user are next to
+-- each other in it.
+abbrev pub ListedIsAscending : Type 0
+ListedIsAscending = (counts users : List ℕ) → (users ≡ listed 0 counts) ↔ (So (ascending leb users) × (multiset users ≡ (λ u. getD counts u 0)))

@@ -6,7 +6,7 @@ ghost use lib.ListN.{length, drop, replicate};
 ghost use Rattle.soda.specs.Roles.{roles};
 ghost use Rattle.instance.specs.Instances.{noted};
 ghost use Rattle.monitor.specs.Monitors.{bare, opening};
-ghost use Rattle.multiset.specs.MultisetTest.{verdictCode, verdictLetter, total, listed, testOf, Numbered};
+ghost use Rattle.multiset.specs.MultisetTest.{verdictCode, verdictLetter, total, listed, testOf, testWorkspace};
 ghost use Rattle.multiset.specs.Private.{Counted, Holds, Added, Fillable, Evaluated};
 use monitor::Monitor;
 use policy::Code;
@@ -108,7 +108,7 @@ pub fn satisfies(
     counts: [u8; 16],
     workspace: &mut [u32],
 ) -> Verdict
-    ensures { λ r. ⌜ (record { code = verdictCode r; letter = verdictLetter r } ≡ testOf (bare users roles (now (words .entry)) (now (rows .entry))) counts (length (now (workspace .entry)))) × Numbered (bare users roles (now (words .entry)) (now (rows .entry))) counts (now (workspace .entry)) (now (workspace .exit)) ⌝ }
+    ensures { λ r. ⌜ (record { code = verdictCode r; letter = verdictLetter r } ≡ testOf (bare users roles (now (words .entry)) (now (rows .entry))) counts (length (now (workspace .entry)))) × (now (workspace .exit) ≡ testWorkspace (bare users roles (now (words .entry)) (now (rows .entry))) counts (now (workspace .entry))) ⌝ }
 {
     if workspace.len() < 8192 {
         return Verdict::Refused(Code::Plain(codes::WORKSPACE));

@@ -87,14 +87,14 @@ pub fn compare(seed: u64, count: usize) -> Result<Report, String> {
     let library = library::chosen()?;
     let (mut calls, mut kinds) = (Vec::new(), Vec::new());
     let (opened, refused) = openings::compare(&library, seed, count);
-    let tested = multisets::compare(&library, seed, count);
+    let (tested, sizes) = multisets::compare(&library, seed, count);
     let written = normal_forms::compare(&library, seed, count);
     let (texts, back, tried_texts) = texts::compare(&library, seed, count);
     for Reader { call, faults, .. } in [opened, tested, written].into_iter().chain(texts) {
         calls.push(call);
         kinds.push(faults.seen());
     }
-    kinds.push(refused);
+    kinds.extend([refused, sizes]);
     kinds.extend(tried_texts);
     let (events, tried) = events::compare(&library, seed, count);
     calls.extend(events);

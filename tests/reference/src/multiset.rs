@@ -6,7 +6,8 @@ use crate::policy::{self, Term};
 use crate::search::Search;
 use crate::workspace;
 
-/// The actions of a multiset, by user from 0 on, each with the roles that its user holds.
+/// The actions of a multiset, each with the roles that its user holds: numbered by ascending user,
+/// those of one user next to each other (02, E8).
 fn multiset_actions(user_roles: &[u16], counts: &[u8; 16]) -> Vec<Taken> {
     let mut actions = Vec::new();
     for (user, row) in user_roles.iter().enumerate() {
@@ -17,7 +18,7 @@ fn multiset_actions(user_roles: &[u16], counts: &[u8; 16]) -> Vec<Taken> {
     actions
 }
 
-/// Opens a multiset test: the policy and the actions.
+/// Opens a multiset test: the policy and the actions in the order of their numbers.
 ///
 /// # Errors
 /// 5, 1, 2, 3, 4, 6, 7, 8, looked for in that order.
@@ -40,8 +41,7 @@ pub fn open_multiset(
 
 /// The multiset test (01's bag test): does the multiset satisfy the policy by Definition 3?
 ///
-/// A yes or a no fills the workspace; the actions are numbered by user from 0 on, which is one of
-/// the numberings that 01 leaves open.
+/// A yes or a no fills the workspace for the actions in the order of their numbers.
 ///
 /// # Errors
 /// 12, then the opening's numbers, then 7, then 8.
@@ -98,5 +98,14 @@ mod tests {
         assert_eq!(answer, Ok(false));
         assert_eq!(workspace[POSSIBLE], 3);
         assert_eq!(workspace.iter().filter(|word| **word != 0).count(), 1);
+    }
+
+    #[test]
+    fn actions_are_numbered_by_ascending_user() {
+        let mut counts = [0; 16];
+        (counts[0], counts[2], counts[15]) = (2, 1, 3);
+        let actions = multiset_actions(&[1; 16], &counts);
+        let users: Vec<usize> = actions.iter().map(|action| action.user).collect();
+        assert_eq!(users, [0, 0, 2, 15, 15, 15]);
     }
 }

@@ -11,7 +11,7 @@ use crate::generate::terms::{self, Style};
 use crate::generate::{cases, secure, statuses, Random};
 use crate::literal::{self, Assignment, Process, Reading, Transitions};
 use crate::monitor::{Kept, Monitor, Taken};
-use crate::multiset::{multiset, open_multiset};
+use crate::multiset::multiset;
 use crate::policy::{self, Term};
 use crate::search::{Question, Search};
 use crate::workspace;
@@ -450,10 +450,11 @@ fn check_whole_trace(tally: &mut Tally, small: &Small) {
 /// The multiset test against Definition 3, and Definition 6 against it where no role changes.
 fn check_multiset(tally: &mut Tally, small: &Small, random: &mut Random) {
     let mut counts = [0u8; 16];
-    let mut trace = Vec::new();
+    let (mut trace, mut actions) = (Vec::new(), Vec::new());
     for place in 0..random.below(5) {
         let user = random.below(small.users);
         counts[user] += 1;
+        actions.push(Taken { user, held: policy::ones(small.user_roles[user]) });
         trace.push(literal::Event::Business { user, action: place as u8 % 2 });
     }
     let many = counts[..small.users].iter().map(|count| usize::from(*count)).collect();
@@ -466,11 +467,9 @@ fn check_multiset(tally: &mut Tally, small: &Small, random: &mut Random) {
     tally.check("the multiset test is Definition 3", answer == Ok(expected), &(small, counts));
     let by_trace = literal::trace_satisfies(&trace, small.users, &assignment, &small.term);
     tally.check("Definitions 3 and 6 agree", by_trace == expected, &(small, &trace));
-    let actions = open_multiset(small.users, small.roles, &words, &small.user_roles, &counts)
-        .map(|(_, actions)| actions)
-        .unwrap_or_default();
-    let fits = workspace::fits_some_numbering(&small.term, &actions, &lent);
-    tally.check("the workspace of a multiset fits", fits, &(small, counts));
+    actions.sort_by_key(|action| action.user);
+    let fits = lent == workspace::expected(&small.term, &actions);
+    tally.check("the workspace of a multiset is in order of users", fits, &(small, counts));
 }
 
 /// Equal forms have one normal form and give the same answers; normal forms are accepted and are

@@ -68,50 +68,6 @@ fn word<A: Acted>(search: &mut Search<A>, question: Question, actions: &[A]) -> 
     terms.filter(|at| search.ask(question, *at, actions)).map(|at| 1u32 << at).sum()
 }
 
-/// Whether the first 8,192 words are the facts about these actions in some numbering of them.
-pub fn fits_some_numbering<A: Acted>(policy: &Term, actions: &[A], workspace: &[u32]) -> bool {
-    let mut search = Search::new(policy);
-    let sets = 1usize << actions.len();
-    let unused = (sets..POSSIBLE).chain(POSSIBLE + sets..WORDS);
-    unused.into_iter().all(|place| workspace[place] == 0)
-        && number_next(&mut search, &mut Vec::new(), &mut actions.to_vec(), workspace)
-}
-
-/// Tries each action that is left at the next place, as long as the words so far fit.
-fn number_next<A: Acted>(
-    search: &mut Search<A>,
-    placed: &mut Vec<A>,
-    left: &mut Vec<A>,
-    workspace: &[u32],
-) -> bool {
-    if !newest_words_fit(search, placed, workspace) {
-        return false;
-    }
-    for choice in 0..left.len() {
-        if left[..choice].contains(&left[choice]) {
-            continue;
-        }
-        placed.push(left.remove(choice));
-        let found = number_next(search, placed, left, workspace);
-        left.insert(choice, placed.pop().expect("one was placed"));
-        if found {
-            return true;
-        }
-    }
-    left.is_empty()
-}
-
-/// Whether the words fit for every set that contains the action placed last.
-fn newest_words_fit<A: Acted>(search: &mut Search<A>, placed: &[A], workspace: &[u32]) -> bool {
-    let end = 1usize << placed.len();
-    let start = if placed.is_empty() { 0 } else { end / 2 };
-    (start..end).all(|set| {
-        let members = members(placed, set);
-        workspace[set] == word(search, Question::Satisfied, &members)
-            && workspace[POSSIBLE + set] == word(search, Question::Possible, &members)
-    })
-}
-
 #[cfg(test)]
 mod tests {
     use super::*;
@@ -153,16 +109,10 @@ mod tests {
     }
 
     #[test]
-    fn some_numbering_is_found() {
+    fn the_order_of_the_actions_shows() {
         let (term, actions) = example();
         let turned: Vec<RawAction> = actions.iter().rev().copied().collect();
-        let mut words = expected(&term, &turned);
-        assert!(fits_some_numbering(&term, &actions, &words));
-        words[3] = 0;
-        assert!(!fits_some_numbering(&term, &actions, &words));
-        words[3] = 1;
-        words[4000] = 1;
-        assert!(!fits_some_numbering(&term, &actions, &words));
+        assert_eq!(expected(&term, &turned)[..4], [0, 0b010, 0b110, 0b001]);
     }
 
     #[test]

@@ -2,7 +2,7 @@
 use mathlib.Core.Path.{_≡_, sym, ap, _∙_}
 use mathlib.Core.Logic.{_≢_}
 use mathlib.Core.Bool.{true, false}
-use mathlib.Core.List.{List, map}
+use mathlib.Core.List.{List}
 use Prim.Native.Nat.{_≤_}
 use native.Mathlib.Omega.{arith}
 use borrow.Author.Needs.{needs}
@@ -18,7 +18,7 @@ use Rattle.policy.proofs.Places.{code-has-number}
 use Rattle.workspace.specs.Workspace.{filled}
 use Rattle.configuration.specs.Configurations.{isZero}
 use Rattle.monitor.specs.Monitors.{Opening, bare, policy, openCode, codeIn}
-use Rattle.multiset.specs.MultisetTest.{total, listed, notedBy, testRefusals, testCode}
+use Rattle.multiset.specs.MultisetTest.{total, actionsOf, testRefusals, testCode}
 use Rattle.multiset.proofs.Listed.{total-zero}
 use Rattle.multiset.proofs.Answers.{counted, fillable, code-opening, code-own, refused-test, refused-plain, yes-test, no-test}
 use Rattle.multiset.proofs.satisfies.Statement.{statement}
@@ -158,15 +158,15 @@ module _ (c : tie.After-evaluate) where
   at-start = from (listed-there .before)
 
   abbrev actions : List Action
-  actions = map (notedBy (asked at-start)) (listed 0 (at-start .args .counts))
-
-  said : satisfied (policy (asked at-start)) 0 actions ≡ c .evaluate .result
-  said = sym (c .evaluate .ensures .is-satisfied ∙ ap (λ (l : List Action). satisfied (policy (asked at-start)) 0 l) (listed-there .actions-of .ensures .are))
+  actions = actionsOf (asked at-start) (at-start .args .counts)
 
   filled-for : c .evaluate .last .1 .1 .0 ≡ filled (policy (asked at-start)) actions (at-start .args .workspace .now)
   filled-for =
       c .evaluate .ensures .workspace
       ∙ ap (λ (l : List Action). filled (policy (asked at-start)) l (at-start .args .workspace .now)) (listed-there .actions-of .ensures .are)
+
+  said : satisfied (policy (asked at-start)) 0 actions ≡ c .evaluate .result
+  said = sym (c .evaluate .ensures .is-satisfied ∙ ap (λ (l : List Action). satisfied (policy (asked at-start)) 0 l) (listed-there .actions-of .ensures .are))
 
 same-length : tie.Need-same-length
 same-length c = search needs

@@ -1,32 +1,67 @@
-//! The multiset test (01: bag test): the answer, the place of a policy's fault, and a workspace that
-//! fits some numbering of the multiset's actions, since 01 leaves their order open.
+//! The multiset test (01: bag test): the answer, the place of a policy's fault, and every word of the
+//! workspace, the multiset's actions numbered by ascending user (02, E8).
+
+use std::slice;
 
 use oskhrein::raw::Calls;
-use reference::generate::calls::{faulty_multisets, multiset_edges, multiset_input, MultisetInput};
+use reference::generate::calls::{
+    faulty_multisets, multiset_edges, multiset_input, ordered_multisets, MultisetInput,
+};
 use reference::generate::Random;
 use reference::monitor::Taken;
 use reference::multiset::{multiset, open_multiset};
 use reference::place::place_of;
-use reference::policy::Term;
-use reference::workspace::{fits_some_numbering, POSSIBLE, WORDS};
+use reference::workspace::{expected, WORDS};
 
 use super::{byte, Reader};
 use crate::faults::Policy;
 use crate::lent::Lent;
-use crate::report::answer_text;
+use crate::report::{answer_text, Seen};
 
-/// Up to so many actions all numberings are tried; of more, what does not depend on the numbering
-/// is compared.
-const TRIED: usize = 6;
+/// The sizes of multisets that fill the workspace; each must occur, and from two on with words by
+/// which the order of the actions is told from that by descending user.
+const SIZES: [&str; 13] = [
+    "no action",
+    "1 action",
+    "2 actions",
+    "3 actions",
+    "4 actions",
+    "5 actions",
+    "6 actions",
+    "7 actions",
+    "8 actions",
+    "9 actions",
+    "10 actions",
+    "11 actions",
+    "12 actions",
+];
+
+/// Another order of the actions.
+type Reordering = fn(&mut Vec<Taken>);
+
+/// Other orders; some multiset must have words by which its own is told from each.
+const ORDERS: [(&str, Reordering); 3] = [
+    ("not by descending user", |actions| actions.reverse()),
+    ("not by turns", take_turns),
+    ("not by roles", |actions| actions.sort_by(|one, other| one.held.cmp(&other.held))),
+];
+
+/// Each user's first action, then each one's second, and so on.
+fn take_turns(actions: &mut Vec<Taken>) {
+    let turn = |at: usize| actions[..at].iter().filter(|one| one.user == actions[at].user).count();
+    let mut places: Vec<usize> = (0..actions.len()).collect();
+    places.sort_by_key(|at| turn(*at));
+    *actions = places.into_iter().map(|at| actions[at].clone()).collect();
+}
 
 /// Compares on the edges and on so many random multisets.
-pub fn compare(library: &Calls, seed: u64, count: usize) -> Reader {
+pub fn compare(library: &Calls, seed: u64, count: usize) -> (Reader, Seen) {
     let mut reader = Reader::new("satisfies", &[1, 2, 3, 4, 5, 6, 7, 8, 12, b'n', b'y']);
-    for (name, input) in multiset_edges() {
-        check(&mut reader, library, name, &input);
-    }
-    for (name, input) in faulty_multisets() {
+    let mut kinds = Seen::kinds("multisets", SIZES.into_iter().chain(ORDERS.map(|(name, _)| name)));
+    let edges = multiset_edges().into_iter().map(|(name, input)| (name.to_string(), input));
+    for (name, input) in edges.chain(faulty_multisets()).chain(ordered_multisets()) {
         check(&mut reader, library, &name, &input);
+        count_kinds(&mut kinds, &input);
     }
     let mut random = Random::new(seed);
     for turn in 0..count {
@@ -35,11 +70,12 @@ pub fn compare(library: &Calls, seed: u64, count: usize) -> Reader {
         }
         let input = multiset_input(&mut random);
         check(&mut reader, library, &format!("random {turn} of seed {seed}"), &input);
+        count_kinds(&mut kinds, &input);
     }
-    reader
+    (reader, kinds)
 }
 
-/// One multiset. The numbering by ascending user is tried first, then others.
+/// One multiset.
 fn check(reader: &mut Reader, library: &Calls, label: &str, input: &MultisetInput) {
     let MultisetInput { users, roles, words, user_roles, counts, workspace } = input;
     let (users, roles) = (*users, *roles);
@@ -51,92 +87,36 @@ fn check(reader: &mut Reader, library: &Calls, label: &str, input: &MultisetInpu
     let (space, byte) = (got.words(), lent.byte());
     let answer =
         library.satisfies(users as u8, roles as u8, words, user_roles, counts, space, byte);
-    let same = answer == expected_answer
-        && (got == expected || fits(input, &mut got.clone(), &mut expected.clone()))
-        && lent.holds(place);
+    let same = answer == expected_answer && got == expected && lent.holds(place);
     reader.check(Policy { users, roles, words }, answer, same, || {
         let (expected_answer, answer) = (answer_text(expected_answer), answer_text(answer));
         let (first, place) = (expected.first_difference(&got), lent.against(place));
         format!(
             "{label}\n  (hex) {input:x?}\n  expected {expected_answer}, got {answer}\n{place}
-  first other workspace word, numbered by ascending user (place, expected, got): {first:x?}"
+  first other workspace word (place, expected, got): {first:x?}"
         )
     });
 }
 
-/// Whether the workspace fits some numbering; the words behind it must be as the reference left
-/// them.
-fn fits(input: &MultisetInput, got: &mut Lent, expected: &mut Lent) -> bool {
-    let MultisetInput { users, roles, words, user_roles, counts, .. } = input;
+/// Counts the size of a multiset that fills the workspace, and the orders that its words tell from
+/// its own. The words of single actions are enough to tell them.
+fn count_kinds(kinds: &mut Seen, input: &MultisetInput) {
+    let MultisetInput { users, roles, words, user_roles, counts, workspace } = input;
     let opened = open_multiset(*users, *roles, words, user_roles, counts);
-    let (Ok((policy, actions)), true) = (opened, expected.words().len() >= WORDS) else {
-        return false;
+    let (Ok((policy, actions)), true) = (opened, *workspace >= WORDS) else {
+        return;
     };
-    let fits = in_some_numbering(&policy, &actions, got.words(), expected.words());
-    got.words()[..WORDS].fill(0);
-    expected.words()[..WORDS].fill(0);
-    fits && got == expected
-}
-
-/// Few actions: tries the numberings. Many: for each number of actions, the words of all sets with
-/// so many, in any order.
-fn in_some_numbering(policy: &Term, actions: &[Taken], got: &[u32], expected: &[u32]) -> bool {
-    if actions.len() <= TRIED {
-        return fits_some_numbering(policy, actions, got);
-    }
-    by_size(got) == by_size(expected)
-}
-
-/// The number of actions of each set with its two words, sorted.
-fn by_size(workspace: &[u32]) -> Vec<(u32, u32, u32)> {
-    let set = |set: usize| (set.count_ones(), workspace[set], workspace[POSSIBLE + set]);
-    let mut all: Vec<_> = (0..POSSIBLE).map(set).collect();
-    all.sort_unstable();
-    all
-}
-
-#[cfg(test)]
-mod tests {
-    use super::*;
-    use reference::workspace::expected;
-
-    /// Words of a multiset of so many users, numbered by ascending and by descending user.
-    fn both_numberings(users: u8) -> (MultisetInput, Lent, Lent) {
-        let mut counts = [0; 16];
-        counts[..usize::from(users)].fill(1);
-        let input = MultisetInput {
-            users: users.into(),
-            roles: 2,
-            words: vec![0x08000000, 0x02000000, 0x05000000, 0x02000001],
-            user_roles: (0..users).map(|user| 1 << (user % 2)).collect(),
-            counts,
-            workspace: WORDS + 1,
-        };
-        let MultisetInput { users, roles, words, user_roles, counts, .. } = &input;
-        let opened = open_multiset(*users, *roles, words, user_roles, counts);
-        let (policy, mut actions) = opened.expect("it opens");
-        let lent = |actions: &[Taken]| {
-            let mut lent = Lent::new(WORDS + 1);
-            lent.words()[..WORDS].copy_from_slice(&expected(&policy, actions));
-            lent
-        };
-        let ascending = lent(&actions);
-        actions.reverse();
-        let descending = lent(&actions);
-        (input, ascending, descending)
-    }
-
-    #[test]
-    fn other_numberings_are_accepted_and_other_words_are_not() {
-        for users in [4, 8] {
-            let (input, mut ascending, descending) = both_numberings(users);
-            assert_ne!(ascending, descending);
-            assert!(fits(&input, &mut descending.clone(), &mut ascending.clone()));
-            for place in [3, POSSIBLE + 1, POSSIBLE - 1, WORDS] {
-                let mut wrong = descending.clone();
-                wrong.words()[place] ^= 1;
-                assert!(!fits(&input, &mut wrong, &mut ascending), "{users} users, word {place}");
-            }
-        }
+    let singles = |actions: &[Taken]| -> Vec<u32> {
+        actions.iter().map(|action| expected(&policy, slice::from_ref(action))[1]).collect()
+    };
+    let own = singles(&actions);
+    let told = ORDERS.map(|(name, reorder)| {
+        let mut others = actions.clone();
+        reorder(&mut others);
+        (name, singles(&others) != own)
+    });
+    told.iter().filter(|(_, told)| *told).for_each(|(name, _)| kinds.count_kind(name));
+    if actions.len() < 2 || told[0].1 {
+        kinds.count_kind(SIZES[actions.len()]);
     }
 }

@@ -11,7 +11,7 @@ use super::Random;
 use crate::casefile::{read_case, Case};
 use crate::event::is_of_close_kind;
 use crate::examples::{action, grant, numbered, CLOSE, POLICY_F};
-use crate::policy::Term;
+use crate::policy::{Operator, Term};
 use crate::raw::RawInstance;
 
 /// The lengths of workspaces worth trying.
@@ -128,7 +128,7 @@ pub fn multiset_input(random: &mut Random) -> MultisetInput {
         5 | 6 => cases::leavers_case(random),
         _ => cases::rich_case(random),
     };
-    let actions = random.pick(&[0, 1, 2, 2, 3, 3, 4, 5, 6, 12, 13]);
+    let actions = random.pick(&[0, 1, 2, 2, 3, 3, 4, 5, 6, 7, 8, 9, 10, 11, 12, 13]);
     let users = usize::from(case.users);
     MultisetInput {
         users,
@@ -197,6 +197,32 @@ pub fn faulty_multisets() -> Vec<(String, MultisetInput)> {
             let words = words.clone();
             let input = MultisetInput { users, roles: 3, words, user_roles, counts, workspace };
             found.push((format!("{name}, {users} users, workspace of {workspace}"), input));
+        }
+    }
+    found
+}
+
+/// Multisets of each size, by users of whom some hold the same roles: spread over all of them, most
+/// by the first, and most by the last.
+pub fn ordered_multisets() -> Vec<(String, MultisetInput)> {
+    let user_roles = vec![1, 2, 1, 4, 2];
+    let plus = |role| Term::plus(Term::Role(role));
+    let two = Term::join(Operator::Together, plus(0), plus(1));
+    let apart = Term::join(Operator::Apart, Term::plus(Term::Everyone), plus(2));
+    let words = Term::join(Operator::Either, two, apart).words();
+    let mut found = Vec::new();
+    for size in 1..=12 {
+        let (mut spread, mut first, mut last) = ([0; 16], [0; 16], [0; 16]);
+        (0..size).for_each(|place| spread[place % 5] += 1);
+        (first[0], first[3]) = (size as u8 - 1, 1);
+        (last[1], last[4]) = (1, size as u8 - 1);
+        for (name, counts) in
+            [("spread", spread), ("most by the first", first), ("most by the last", last)]
+        {
+            let (words, user_roles) = (words.clone(), user_roles.clone());
+            let input =
+                MultisetInput { users: 5, roles: 3, words, user_roles, counts, workspace: 8192 };
+            found.push((format!("{size} actions, {name}"), input));
         }
     }
     found
