@@ -9,6 +9,7 @@
 //! | 0.5.0 | permissions and workflows, in an opening and in who may act | 3 |
 //! | 0.6.0 | a monitor that keeps its status, whose call then takes no workspace | 4 |
 //! | 0.7.0 | a policy's text, read and written | 4 |
+//! | 0.8.0 | a promise of the order of a multiset's actions, which is as it was | 4 |
 
 use std::ffi::{c_char, c_int, c_void, CString};
 use std::mem::transmute;

@@ -20,8 +20,8 @@ use multiset::Verdict;
 use policy::Code;
 use text::Converted;
 
-// The version, 0.7.0: major, minor and patch number, a byte each.
-const VERSION: u32 = 0x000700;
+// The version, 0.8.0: major, minor and patch number, a byte each.
+const VERSION: u32 = 0x000800;
 
 // The number of the layout of what is lent: another one whenever a field of it comes, goes, moves or means something else.
 const LAYOUT: u32 = 4;
