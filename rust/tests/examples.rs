@@ -3,7 +3,7 @@
 
 mod common;
 
-use common::{number, open_l, step, EVENTS_L, POLICY_F};
+use common::{marked, number, open_l, step, EVENTS_L, POLICY_F};
 use oskhrein::{normal_form, satisfies, Event, Monitor, Refusal, Workspace, MAX_WORDS};
 
 /// An action by a user.
@@ -50,6 +50,23 @@ fn p2_p3_p4_multisets() {
     assert_eq!(satisfies_f([1, 0, 1]), Ok(false));
     assert_eq!(satisfies_f([1, 1, 0]), Ok(false));
     assert_eq!(satisfies_f([0, 0, 0]), Ok(false));
+}
+
+/// The words of single actions tell whose they are: role 0 is at word 1, role 1 at word 3, role 2 at
+/// word 4.
+#[test]
+fn a_multisets_actions_are_numbered_by_ascending_user() {
+    let policy = [0x08000000, 0x02000000, 0x08000000, 0x02000001, 0x02000002];
+    let mut counts = [0; 16];
+    (counts[0], counts[1], counts[3]) = (1, 2, 1);
+    let (mut workspace, mut other) = (Workspace::new(), marked());
+    for workspace in [&mut workspace, &mut other] {
+        let answer = satisfies(4, 3, &policy, &[2, 1, 1, 4], &counts, workspace);
+        assert_eq!(answer, Ok(false));
+    }
+    let singles = [1, 2, 4, 8].map(|set| workspace.satisfied(set));
+    assert_eq!(singles, [1 << 3, 1 << 1, 1 << 1, 1 << 4]);
+    assert_eq!(workspace, other);
 }
 
 #[test]

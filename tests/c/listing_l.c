@@ -178,6 +178,21 @@ static void multisets(void)
     CHECK(workspace_is(GUARD));
 }
 
+/* A multiset's actions are numbered by ascending user: the words of single actions tell whose they are. */
+static void numbering(void)
+{
+    static const uint32_t policy[] = {0x08000000, 0x02000000, 0x08000000, 0x02000001, 0x02000002};
+    static const uint16_t rows[] = {2, 1, 1, 4};
+    static const uint8_t counts[OSKHREIN_MAX_USERS] = {1, 2, 0, 1};
+    static uint32_t other[OSKHREIN_WORKSPACE_WORDS];
+
+    fill_workspace(GUARD);
+    CHECK(oskhrein_satisfies(4, 3, policy, 5, rows, 4, counts, workspace, OSKHREIN_WORKSPACE_WORDS, &place) == OSKHREIN_NO);
+    CHECK(workspace[1] == 1u << 3 && workspace[2] == 1u << 1 && workspace[4] == 1u << 1 && workspace[8] == 1u << 4);
+    CHECK(oskhrein_satisfies(4, 3, policy, 5, rows, 4, counts, other, OSKHREIN_WORKSPACE_WORDS, &place) == OSKHREIN_NO);
+    check(memcmp(workspace, other, sizeof other) == 0, "the same question leaves the same words");
+}
+
 /* A refusal gives only its number: monitor and workspace keep what they had, but for 9 the workspace. */
 static void refusals(void)
 {
@@ -352,6 +367,7 @@ int main(void)
     opening();
     listing_l();
     multisets();
+    numbering();
     refusals();
     kept_mask();
     enabled();

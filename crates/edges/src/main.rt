@@ -82,8 +82,12 @@ const PLUS: [u32; 2] = [0x0500_0000, 0x0100_0000];
 
 // Writes a line: what was asked, and the number.
 fn say(asked: &[u8], number: u8) {
+    say_word(asked, number as u32);
+}
+
+fn say_word(asked: &[u8], word: u32) {
     io::write_all(1, asked);
-    io::print_decimal(1, number as u64);
+    io::print_decimal(1, word as u64);
     let end = [b'\n'];
     io::write_all(1, &end);
 }
@@ -471,6 +475,23 @@ fn multisets() {
     );
 }
 
+// Role 0 together with role 1, for a multiset of user 0 twice and user 1 once: the words of single actions tell whose they are.
+fn numbering() {
+    let words = [TOGETHER, 0x0200_0000, 0x0200_0001];
+    let rows = [1u16, 2];
+    let mut counts = [0u8; 16];
+    counts[0] = 2;
+    counts[1] = 1;
+    let mut workspace = [0u32; 8192];
+    say_verdict(
+        b"user 0 twice, user 1 once: ",
+        multiset::satisfies(2, 2, &words, &rows, counts, &mut workspace),
+    );
+    say_word(b"action 0 alone: ", workspace[1]);
+    say_word(b"action 1 alone: ", workspace[2]);
+    say_word(b"action 2 alone: ", workspace[4]);
+}
+
 // Not twice, for a user with a role and one without.
 fn not_twice() {
     let words = [NOT, NOT, ALL];
@@ -837,6 +858,7 @@ fn main() {
     unassigned();
     acted_before();
     multisets();
+    numbering();
     not_twice();
     states();
     transitions();
