@@ -215,7 +215,7 @@ pub fn ordered_multisets() -> Vec<(String, MultisetInput)> {
         let (mut spread, mut first, mut last) = ([0; 16], [0; 16], [0; 16]);
         (0..size).for_each(|place| spread[place % 5] += 1);
         (first[0], first[3]) = (size as u8 - 1, 1);
-        (last[1], last[4]) = (1, size as u8 - 1);
+        (last[2], last[4]) = (1, size as u8 - 1);
         for (name, counts) in
             [("spread", spread), ("most by the first", first), ("most by the last", last)]
         {
