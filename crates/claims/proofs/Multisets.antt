@@ -3,27 +3,25 @@
 use mathlib.Core.Path.{_≡_, refl, sym, _∙_, ap, subst₂, fun-ext}
 use mathlib.Core.Logic.{_↔_}
 use mathlib.Core.Bool.{Bool, true, false, So, not, cond}
-use mathlib.Core.List.{List, [], _∷_, _++_, map}
-use Prim.Native.Nat.{ℕ, zero, suc, _^_, _≤_, _<_}
+use mathlib.Core.List.{List, [], _∷_, map}
+use Prim.Native.Nat.{ℕ, zero, suc, _≤_}
 use native.Mathlib.Omega.{arith}
 use lib.Dec.{ltb, eqb}
-use lib.ListN.{length, getD, drop, length-append, length-map, List·getD-append}
+use lib.ListN.{length, getD, drop, length-map}
 use lib.Pow.{pow-mono}
 use borrow.Author.Tests.{ltb-false, le-ltb, ne-eqb, not-false}
 use Rattle.soda.specs.Lists.{all}
-use Rattle.soda.specs.Terms.{Term}
 use Rattle.soda.specs.Tables.{satisfied, note}
 use Rattle.soda.specs.Roles.{roles}
 use Rattle.soda.specs.Multisets.{SatM}
 use Rattle.soda.specs.Traces.{execution}
 use Rattle.soda.proofs.Bools.{never, and-split, and-join, so-eq, eq-so}
 use Rattle.soda.proofs.Accuracy.{satisfied-is-users}
-use Rattle.soda.specs.declared.Action.{Action}
 use Rattle.policy.specs.Codes.{MALFORMED, FULL}
 use Rattle.policy.specs.Refusals.{Refusals, _gives_}
 use Rattle.policy.proofs.Refusals.{clear, clear-code, clear-front, clear-behind, code-behind}
-use Rattle.workspace.specs.Workspace.{column, tableOf, filled}
-use Rattle.workspace.proofs.Columns.{column-length}
+use Rattle.workspace.specs.Workspace.{tableOf, filled}
+use Rattle.workspace.proofs.Columns.{filled-word}
 use Rattle.configuration.specs.Configurations.{isZero}
 use Rattle.monitor.specs.Monitors.{Opening, policy, openRefusals, openCode}
 use Rattle.multiset.specs.MultisetTest.{total, listed, notedBy, actionsOf, unordered, testRefusals, testCode, letterY, letterN, testOf, testWorkspace}
@@ -108,18 +106,13 @@ test-fills-ascending o counts before users h e =
       λ t. rw (ne-eqb (testCode o counts (length before)) 0 (λ z. t (testable o counts (length before) z))),
     )
 
--- a word of the table, whatever stands behind it
-table-word : (φ : Term) (l : List Action) (before : List ℕ) (k : ℕ) → length l ≤ 12 → k < 8192 → getD (filled φ l before) k 0 ≡ getD (tableOf φ l) k 0
-unfolding filled tableOf
-table-word φ l before k few h =
-    let cap : 2 ^ length l ≤ 4096 = pow-mono {j = 12} few in
-    List·getD-append (column false φ l ++ column true φ l) (drop 8192 before) 0 k
-    (omega (arith, length-append (column false φ l) (column true φ l), column-length φ l cap false, column-length φ l cap true))
-
 pub test-leaves-same-words : TestLeavesSameWords
 test-leaves-same-words o counts one other k s t h = word one s ∙ sym (word other t)
   where
+    few : length (actionsOf o counts) ≤ 12
+    few = omega (arith, length-map (listed 0 counts) (notedBy o), listed-length 0 counts, s .few)
+
     word : (before : List ℕ) → Testable o counts (length before) → getD (testWorkspace o counts before) k 0 ≡ getD (tableOf (policy o) (actionsOf o counts)) k 0
     word before t =
         ap (λ (l : List ℕ). getD l k 0) (tested o counts before t)
-        ∙ table-word (policy o) (actionsOf o counts) before k (omega (arith, length-map (listed 0 counts) (notedBy o), listed-length 0 counts, t .few)) h
+        ∙ filled-word (policy o) (actionsOf o counts) (pow-mono {j = 12} few) before k h

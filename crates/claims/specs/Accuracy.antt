@@ -179,15 +179,16 @@ TestIsMultiset =
     → ((testOf o counts n .letter ≡ letterY) ↔ (Testable o counts n × Counted o counts))
     × ((testOf o counts n .letter ≡ letterN) ↔ (Testable o counts n × (Counted o counts → ⊥)))
 
--- 02, E8: "a bag's actions are numbered by ascending person". In the one list of users that ascends and has each as often as its count says
--- (`ListedIsAscending` of multiset), action j is by the user at place j: for these the workspace is filled where the input is such. Else it is as it was.
+-- 02, E8: "a bag's actions are numbered by ascending person". Where the input is such, the workspace is filled for actions by users who ascend
+-- and occur as often as their counts say, the action at place j by the user at place j; there is one such list (`ListedIsAscending` of
+-- multiset). Else it is as it was.
 abbrev pub TestFillsAscending : Type 0
 TestFillsAscending =
     (o : Opening) (counts before users : List ℕ) → So (ascending leb users) → multiset users ≡ (λ u. getD counts u 0)
     → (Testable o counts (length before) → testWorkspace o counts before ≡ filled (policy o) (map (notedBy o) users) before)
     × ((Testable o counts (length before) → ⊥) → testWorkspace o counts before ≡ before)
 
--- "Partner houses compare rooms": the same question leaves the same 8,192 words, whatever two workspaces held.
+-- 02, E8: "Partner houses compare rooms in tests". The same question leaves the same 8,192 words, whatever two workspaces held.
 abbrev pub TestLeavesSameWords : Type 0
 TestLeavesSameWords =
     (o : Opening) (counts one other : List ℕ) (k : ℕ) → Testable o counts (length one) → Testable o counts (length other) → k < 8192

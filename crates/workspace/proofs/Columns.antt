@@ -77,7 +77,7 @@ module _ (φ : Term) (l : List Action) (cap : 2 ^ length l ≤ 4096) where
     unfolding sets
     sets-length = length-map (range 0 (2 ^ length l)) (rowOf e φ l) ∙ range-length 0 (2 ^ length l)
 
-    pub column-length : length (column e φ l) ≡ 4096
+    column-length : length (column e φ l) ≡ 4096
     unfolding column sets
     column-length = omega (arith, length-append sets (replicate (4096 - 2 ^ length l) 0), sets-length, length-replicate {A = ℕ} (4096 - 2 ^ length l) 0)
 
@@ -93,23 +93,26 @@ module _ (φ : Term) (l : List Action) (cap : 2 ^ length l ≤ 4096) where
         ap (λ n. getD (sets ++ replicate (4096 - 2 ^ length l) 0) n 0) z ∙ getD-append-add sets (replicate (4096 - 2 ^ length l) 0) (k - 2 ^ length l) 0
         ∙ getD-replicate (4096 - 2 ^ length l) (k - 2 ^ length l) 0 0 (omega arith)
 
+  table-length : length (tableOf φ l) ≡ 8192
+  unfolding tableOf
+  table-length = omega (arith, length-append (column false φ l) (column true φ l), column-length false, column-length true)
+
   module _ (room : List ℕ) where
+    -- a word of the table, whatever stood there
+    pub filled-word : (k : ℕ) → k < 8192 → getD (filled φ l room) k 0 ≡ getD (tableOf φ l) k 0
+    unfolding filled
+    filled-word k h = List·getD-append (tableOf φ l) (drop 8192 room) 0 k (omega (arith, table-length))
+
     filled-low : (k : ℕ) → k < 4096 → getD (filled φ l room) k 0 ≡ getD (column false φ l) k 0
-    unfolding filled tableOf
-    filled-low k h =
-        List·getD-append (column false φ l ++ column true φ l) (drop 8192 room) 0 k (omega (arith, length-append (column false φ l) (column true φ l), column-length false))
-        ∙ List·getD-append (column false φ l) (column true φ l) 0 k (omega (arith, column-length false))
+    unfolding tableOf
+    filled-low k h = filled-word k (omega arith) ∙ List·getD-append (column false φ l) (column true φ l) 0 k (omega (arith, column-length false))
 
     filled-high : (k : ℕ) → k < 4096 → getD (filled φ l room) (4096 + k) 0 ≡ getD (column true φ l) k 0
-    unfolding filled tableOf
+    unfolding tableOf
     filled-high k h =
         let z : 4096 + k ≡ length (column false φ l) + k = omega (arith, column-length false) in
-        List·getD-append (column false φ l ++ column true φ l) (drop 8192 room) 0 (4096 + k) (omega (arith, length-append (column false φ l) (column true φ l), column-length false, column-length true))
-        ∙ ap (λ n. getD (column false φ l ++ column true φ l) n 0) z ∙ getD-append-add (column false φ l) (column true φ l) k 0
-
-    table-length : length (tableOf φ l) ≡ 8192
-    unfolding tableOf
-    table-length = omega (arith, length-append (column false φ l) (column true φ l), column-length false, column-length true)
+        filled-word (4096 + k) (omega arith) ∙ ap (λ n. getD (column false φ l ++ column true φ l) n 0) z
+        ∙ getD-append-add (column false φ l) (column true φ l) k 0
 
     filled-rest : (k : ℕ) → getD (filled φ l room) (8192 + k) 0 ≡ getD room (8192 + k) 0
     unfolding filled
