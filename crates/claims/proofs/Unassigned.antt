@@ -102,8 +102,8 @@ module _ (m : Monitor) (u a n : ℕ) where
       let (closed, (malformed, (given, (full, (last, none))))) = clear_behind (admission m (ltb n 8192)) (entry i (Acts u a) ++ own) (clear (unassigned_refusals m u a n) refl z) in
       true≢false last
 
-pub unassigned_is-turned_away : UnassignedIsTurnedAway
-unassigned_is-turned_away m w u a n r e = (is, λ z. refused m u a n (sym is ∙ z))
+pub unassigned_is_turned_away : UnassignedIsTurnedAway
+unassigned_is_turned_away m w u a n r e = (is, λ z. refused m u a n (sym is ∙ z))
   where
     -- an action's word asks for a workspace
     long : is_short w n ≡ ltb n 8192
@@ -118,7 +118,7 @@ unassigned_may_not_act m u a n byte small e = by (lt_or_le u m.configuration.use
     by : (u < m.configuration.users) ⊎ (m.configuration.users ≤ u) → bit u (enabled_mask m n a) ≡ false
     by (inl l) =
         let r : event_in m (action_word u a) ≡ Acts u a = read_action u a byte small m.configuration.users m.configuration.roles ∙ ap (λ b. cond b (Acts u a) Malformed) (lt-ltb u m.configuration.users l) in
-        bit-is-action m n u a byte small ∙ ne_eqb (event_code m (action_word u a) n) 0 (unassigned_is-turned_away m (action_word u a) u a n r e).1
+        bit-is-action m n u a byte small ∙ ne_eqb (event_code m (action_word u a) n) 0 (unassigned_is_turned_away m (action_word u a) u a n r e).1
     by (inr l) = no_other-bit m n u a l
 
 pub unassigned_is_in_no_multiset : UnassignedIsInNoMultiset

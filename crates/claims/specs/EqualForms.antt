@@ -1,7 +1,7 @@
 -- Demand 3 (document 01, "Equal forms"), one claim about the definitions that the contracts of `normal_form`, `open`, `event` and
 -- `status` cite. Statement only.
 use Rattle.std.specs.Prelude.{◌≡◌, ◌↔◌, List, ℕ, ◌≤◌, length, take}
-use Rattle.soda.specs.Steps.{Turn, WordSteps}
+use Rattle.soda.specs.Steps.{WordSteps}
 use Rattle.policy.specs.Codes.{ACCEPTED}
 use Rattle.policy.specs.Refusals.{code}
 use Rattle.policy.specs.Reading.{refusals}
@@ -19,26 +19,21 @@ IsAccepted users roles words = code (refusals users roles words) ≡ ACCEPTED
 abbrev pub normal : ℕ → ℕ → List ℕ → List ℕ → List ℕ
 normal users roles words out = take (length words) (normal_out users roles words out)
 
--- Two openings get the same number. The monitors that they leave have the same status, and they give every list of 32-bit words the same
--- number for each event and the same status after it. Every event call may have its own workspace, long enough for its word, a close may
--- have any: only its length is passed, so its contents play no part. The status call has none.
+-- The monitors that two openings leave have the same status, and they give every list of 32-bit words the same number for each event and
+-- the same status after it. Every event call may have its own workspace, long enough for its word, a close may have any: only its length is
+-- passed, so its contents play no part. The status call has none.
 pub record AnsweredAlike (o p : Opening) : Type 0 where
-  pub number : open_code o ≡ open_code p
   pub status : (status_code (opened o) ≡ status_code (opened p)) × (status_letter (opened o) ≡ status_letter (opened p))
   pub events : (ws : List ℕ) (n n' : Lengths) → EnoughFor ws n → EnoughFor ws n' → lines (run (opened o) ws n) ≡ lines (run (opened p) ws n')
-
--- on the same counts, and on any grants, permissions and workflow that are the same for both
-abbrev pub SameAnswers : ℕ → ℕ → List ℕ → List ℕ → Type 0
-SameAnswers users roles v w =
-    (rows permissions workflow : List ℕ)
-    → AnsweredAlike (given users roles v rows permissions workflow) (given users roles w rows permissions workflow)
 
 -- Two accepted policies over the same counts, and an output long enough for each: they have the same normal form exactly when exchanges
 -- and regroupings lead from one to the other. If they have the same normal form then, opened on the same grants, permissions and workflow,
 -- they are answered alike.
 pub record Alike (users roles : ℕ) (v w out out' : List ℕ) : Type 0 where
-  pub form : (normal users roles v out ≡ normal users roles w out') ↔ WordSteps Turn v w
-  pub answers : normal users roles v out ≡ normal users roles w out' → SameAnswers users roles v w
+  pub form : (normal users roles v out ≡ normal users roles w out') ↔ WordSteps v w
+  pub answers : normal users roles v out ≡ normal users roles w out' → (rows permissions workflow : List ℕ)
+      → open_code (given users roles v rows permissions workflow) ≡ ACCEPTED → open_code (given users roles w rows permissions workflow) ≡ ACCEPTED
+      → AnsweredAlike (given users roles v rows permissions workflow) (given users roles w rows permissions workflow)
 
 abbrev pub EqualForms : Type 0
 EqualForms =

@@ -7,4 +7,3 @@ pub mod EqualForms
 pub mod KeptMask
 pub mod Unassigned
 pub mod Examples
-pub mod Spreading

@@ -184,7 +184,7 @@ pub normal-words : (op : Op) (φ : Term) (rest : List ℕ) → So (fits φ) → 
 normal-words op φ rest f =
     let n = normal_form φ in
     subst (λ (χ : Term). Chain (op_word op) (encode χ ++ rest) (operands op n) rest) (normal-chain op n (normal-is-normal φ f))
-    (chain-words op (operands op n) rest (operands-some op n) (operands_fine op n ((normal_keeps φ).kept.same_fits ∙ f)))
+    (chain-words op (operands op n) rest (operands-some op n) (operands_fine op n ((normal_keeps φ).same_fits ∙ f)))
 
 chain-some : {w : ℕ} {ws : List ℕ} {l : List Term} {rest : List ℕ} → Chain w ws l rest → 0 < length l
 chain-some (last p) = omega arith

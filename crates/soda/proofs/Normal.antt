@@ -15,7 +15,7 @@ use Rattle.soda.proofs.Bools.{never, by_test, and_split, and-join}
 use Rattle.soda.proofs.Sorting.{All, all_append, insert-length, merge-sort}
 use Rattle.soda.proofs.Sorting.{sort-length, sort-all, sort-ascending, sort-sort, sort_comm, sort-left, sort-right}
 use Rattle.soda.proofs.Words.{term-total, term_trans, term_antisym}
-use Rattle.soda.proofs.Steps.{one-step, steps_trans, steps_back, steps_eq, steps-not, steps-plus, steps-right, steps-both, turns_fit}
+use Rattle.soda.proofs.Steps.{one-turn, steps_trans, steps_back, steps_eq, steps-not, steps-plus, steps-right, steps-both, steps-fits}
 
 -- ── operators ──
 same_op-refl : (op : Op) → So (same_op op op)
@@ -72,29 +72,29 @@ operands-chain op (φ ∷ ψ ∷ l) h p = operands_same op φ (chain op (ψ ∷ 
 
 -- ── a term and its normal form are related ──
 -- two chains side by side make one
-chain_append : (op : Op) (l m : List Term) → 0 < length l → 0 < length m → Steps Turn (bin op (chain op l) (chain op m)) (chain op (l ++ m))
+chain_append : (op : Op) (l m : List Term) → 0 < length l → 0 < length m → Steps (bin op (chain op l) (chain op m)) (chain op (l ++ m))
 chain_append op [] m h k = absurd (omega arith)
 chain_append op (φ ∷ []) m h k = steps_eq (sym (chain_cons op φ m k))
-chain_append op (φ ∷ ψ ∷ l) m h k = steps_trans (one-step (regroup op φ (chain op (ψ ∷ l)) (chain op m)))
+chain_append op (φ ∷ ψ ∷ l) m h k = steps_trans (one-turn (regroup op φ (chain op (ψ ∷ l)) (chain op m)))
     (steps-right op φ (chain_append op (ψ ∷ l) m (omega arith) k))
 
-steps-operands : (op : Op) (φ : Term) → Steps Turn φ (chain op (operands op φ))
-steps-operands op = by_operands op (λ φ. Steps Turn φ (chain op (operands op φ))) (λ φ e. rw e Steps.none)
+steps-operands : (op : Op) (φ : Term) → Steps φ (chain op (operands op φ))
+steps-operands op = by_operands op (λ φ. Steps φ (chain op (operands op φ))) (λ φ e. rw e Steps.none)
     λ φ ψ h k. rw (operands_same op φ ψ)
     (steps_trans (steps-both op h k) (chain_append op (operands op φ) (operands op ψ) (operands-some op φ) (operands-some op ψ)))
 
 -- the first two operands of a longer chain change places
-swap_front : (op : Op) (a b c : Term) → Steps Turn (bin op a (bin op b c)) (bin op b (bin op a c))
-swap_front op a b c = Steps.step (here (back op a b c)) (Steps.step (in_left (here (exchange op a b))) (one-step (regroup op b a c)))
+swap_front : (op : Op) (a b c : Term) → Steps (bin op a (bin op b c)) (bin op b (bin op a c))
+swap_front op a b c = Steps.step (here (back op a b c)) (Steps.step (in_left (here (exchange op a b))) (one-turn (regroup op b a c)))
 
-chain-insert : (op : Op) (φ : Term) (l : List Term) → Steps Turn (chain op (φ ∷ l)) (chain op (insert term_le φ l))
+chain-insert : (op : Op) (φ : Term) (l : List Term) → Steps (chain op (φ ∷ l)) (chain op (insert term_le φ l))
 chain-insert op φ [] = Steps.none
-chain-insert op φ (ψ ∷ []) = by_test (term_le φ ψ) (λ e. rw e Steps.none) λ e. rw e (one-step (exchange op φ ψ))
+chain-insert op φ (ψ ∷ []) = by_test (term_le φ ψ) (λ e. rw e Steps.none) λ e. rw e (one-turn (exchange op φ ψ))
 chain-insert op φ (ψ ∷ χ ∷ l) = by_test (term_le φ ψ) (λ e. rw e Steps.none)
     λ e. rw (e, chain_cons op ψ (insert term_le φ (χ ∷ l)) (omega (arith, insert-length term_le φ (χ ∷ l))))
     (steps_trans (swap_front op φ ψ (chain op (χ ∷ l))) (steps-right op ψ (chain-insert op φ (χ ∷ l))))
 
-chain-sorted : (op : Op) (l : List Term) → Steps Turn (chain op l) (chain op (sorted l))
+chain-sorted : (op : Op) (l : List Term) → Steps (chain op l) (chain op (sorted l))
 chain-sorted op [] = Steps.none
 chain-sorted op (φ ∷ []) = Steps.none
 chain-sorted op (φ ∷ ψ ∷ l) = steps_trans (steps-right op φ (chain-sorted op (ψ ∷ l)))
@@ -104,7 +104,7 @@ chain-sorted op (φ ∷ ψ ∷ l) = steps_trans (steps-right op φ (chain-sorted
 abbrev parts : Op → Term → List Term
 parts op φ = operands op (normal_form φ)
 
-pub steps_nf : (φ : Term) → Steps Turn φ (normal_form φ)
+pub steps_nf : (φ : Term) → Steps φ (normal_form φ)
 steps_nf everyone = Steps.none
 steps_nf (role r) = Steps.none
 steps_nf (set m) = Steps.none
@@ -125,7 +125,7 @@ operands-fit op = by_operands op (λ φ. Fits φ → All Fits (operands op φ)) 
     rw (operands_same op φ ψ) (all_append Fits (operands op φ) (operands op ψ) (h s.0) (k s.1))
 
 parts_fit : (op : Op) (φ : Term) → Fits φ → All Fits (parts op φ)
-parts_fit op φ f = operands-fit op (normal_form φ) (sym (turns_fit (steps_nf φ)) ∙ f)
+parts_fit op φ f = operands-fit op (normal_form φ) (sym (steps-fits (steps_nf φ)) ∙ f)
 
 pub normal-operands : NormalOperands
 normal-operands op φ ψ =
@@ -166,16 +166,16 @@ nf_turn f (back op a b c) =
     let k = and_split (fits b) (fits c) h.1 in
     sym (nf_regroup op a b c h.0 k.0 k.1)
 
-nf_step : {a b : Term} → So (fits a) → Step Turn a b → normal_form a ≡ normal_form b
+nf_step : {a b : Term} → So (fits a) → Step a b → normal_form a ≡ normal_form b
 nf_step f (here t) = nf_turn f t
 nf_step f (in_not s) = ap ¬ᵗ◌ (nf_step f s)
 nf_step f (in_plus s) = ap ◌⁺ (nf_step f s)
 nf_step f (in_left {op} {a} {b} {c} s) = ap (λ (φ : Term). chain op (sorted (operands op φ ++ parts op c))) (nf_step (and_split (fits a) (fits c) f).0 s)
 nf_step f (in_right {op} {a} {b} {c} s) = ap (λ (φ : Term). chain op (sorted (parts op a ++ operands op φ))) (nf_step (and_split (fits a) (fits b) f).1 s)
 
-pub nf_steps : {a b : Term} → So (fits a) → Steps Turn a b → normal_form a ≡ normal_form b
+pub nf_steps : {a b : Term} → So (fits a) → Steps a b → normal_form a ≡ normal_form b
 nf_steps f Steps.none = refl
-nf_steps f (Steps.step s p) = nf_step f s ∙ nf_steps (sym (turns_fit (Steps.step s Steps.none)) ∙ f) p
+nf_steps f (Steps.step s p) = nf_step f s ∙ nf_steps (sym (steps-fits (Steps.step s Steps.none)) ∙ f) p
 
 pub same-form-is-steps : SameFormIsSteps
 same-form-is-steps φ ψ f = (λ e. steps_trans (steps_nf φ) (steps_trans (steps_eq e) (steps_back (steps_nf ψ))), nf_steps f)
@@ -210,7 +210,7 @@ normal-is-merge op φ ψ = ap (chain op) (sym (merge-sort term_le term-total ter
 -- the normal forms of a term's operands are the operands of its normal form, in some order
 nfs_fit : (l : List Term) → All Fits l → All Fits (map normal_form l)
 nfs_fit [] h = tt
-nfs_fit (φ ∷ l) h = (sym (turns_fit (steps_nf φ)) ∙ h.0, nfs_fit l h.1)
+nfs_fit (φ ∷ l) h = (sym (steps-fits (steps_nf φ)) ∙ h.0, nfs_fit l h.1)
 
 parts_operands : (op : Op) (φ : Term) → Fits φ → sorted (map normal_form (operands op φ)) ≡ sorted (parts op φ)
 parts_operands op = by_operands op (λ φ. Fits φ → sorted (map normal_form (operands op φ)) ≡ sorted (parts op φ))

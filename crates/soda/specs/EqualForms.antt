@@ -1,45 +1,33 @@
--- What is proved of exchanging, regrouping and the normal form (document 01, "Normal form" and "Equal forms"), and of spreading (document
--- 02, E9). Statements only.
+-- What is proved of exchanging, regrouping and the normal form (document 01, "Normal form" and "Equal forms"). Statements only.
 use Rattle.std.specs.Prelude.{◌≡◌, ◌↔◌, Bool, List, [], ◌∷◌, ◌++◌, map, ℕ, ◌≤◌, ◌<◌, length}
 use Rattle.std.proofs.Math.Bool.{So}
 use Rattle.soda.specs.Lists.{count, ascending, merge}
 use Rattle.soda.specs.Terms.{Op, Term, bin, unit, well_formed, size}
 use Rattle.soda.specs.Words.{fits, declared, encode, term_le}
 use Rattle.soda.specs.Tables.{judge}
-use Rattle.soda.specs.Steps.{Rule, Turn, Rewrite, Steps, WordSteps}
+use Rattle.soda.specs.Steps.{Steps, WordSteps}
 use Rattle.soda.specs.Normal.{operands, chain, sorted, normal_form}
 
 -- Two terms have the same normal form exactly when exchanges and regroupings lead from one to the other ..
 abbrev pub SameFormIsSteps : Type 0
-SameFormIsSteps = (φ ψ : Term) → So (fits φ) → (normal_form φ ≡ normal_form ψ) ↔ Steps Turn φ ψ
+SameFormIsSteps = (φ ψ : Term) → So (fits φ) → (normal_form φ ≡ normal_form ψ) ↔ Steps φ ψ
 
 -- .. and their words likewise.
 abbrev pub SameWordsIsWordSteps : Type 0
 SameWordsIsWordSteps =
     (φ ψ : Term) → So (fits φ) → So (fits ψ)
-    → (encode (normal_form φ) ≡ encode (normal_form ψ)) ↔ WordSteps Turn (encode φ) (encode ψ)
+    → (encode (normal_form φ) ≡ encode (normal_form ψ)) ↔ WordSteps (encode φ) (encode ψ)
 
--- From the words of a term a rule leads to the words of a term that it leads to ..
-abbrev pub LeadsToWords : Rule → Type 0
-LeadsToWords R = (φ : Term) (w : List ℕ) → So (fits φ) → WordSteps R (encode φ) w → (ψ : Term) × Steps R φ ψ × (w ≡ encode ψ)
+-- Words of two terms are related exactly when the terms are.
+abbrev pub WordsRelated : Type 0
+WordsRelated = (φ ψ : Term) → So (fits φ) → So (fits ψ) → WordSteps (encode φ) (encode ψ) ↔ Steps φ ψ
 
--- .. and to those of a given term exactly when it leads to that one.
-abbrev pub WordsRelated : Rule → Type 0
-WordsRelated R = (φ ψ : Term) → So (fits φ) → So (fits ψ) → WordSteps R (encode φ) (encode ψ) ↔ Steps R φ ψ
-
--- What exchanging, regrouping and spreading keep: unit, well formed, declared and in the layout ..
-pub record Kept (φ ψ : Term) : Type 0 where
-  pub same_unit : unit φ ≡ unit ψ
-  pub same_formed : well_formed φ ≡ well_formed ψ
-  pub same_declared : (users roles : ℕ) → declared users roles φ ≡ declared users roles ψ
-  pub same_fits : fits φ ≡ fits ψ
-
-abbrev pub StepsKeep : Type 0
-StepsKeep = (φ ψ : Term) → Steps Rewrite φ ψ → Kept φ ψ
-
--- .. and the normal form also the size and how often each word occurs.
+-- What the normal form keeps: unit, well formed, declared, in the layout, the size and how often each word occurs.
 pub record Keeps (φ : Term) : Type 0 where
-  pub kept : Kept (normal_form φ) φ
+  pub same_unit : unit (normal_form φ) ≡ unit φ
+  pub same_formed : well_formed (normal_form φ) ≡ well_formed φ
+  pub same_declared : (users roles : ℕ) → declared users roles (normal_form φ) ≡ declared users roles φ
+  pub same_fits : fits (normal_form φ) ≡ fits φ
   pub same_size : size (normal_form φ) ≡ size φ
   pub same_words : (w : ℕ) → count w (encode (normal_form φ)) ≡ count w (encode φ)
 
@@ -84,13 +72,9 @@ NormalIsMerge =
     (op : Op) (φ ψ : Term)
     → normal_form (bin op φ ψ) ≡ chain op (merge term_le (operands op (normal_form φ)) (operands op (normal_form ψ)))
 
--- Terms that the three lead to are satisfied by the same lists of actions, and the same lists are possible.
+-- Related terms are satisfied by the same lists of actions, and the same lists are possible.
 abbrev pub StepsKeepJudgement : Type 0
-StepsKeepJudgement = (φ ψ : Term) → Steps Rewrite φ ψ → (e : Bool) → judge e φ ≡ judge e ψ
-
--- Steps by one rule are steps by a wider one; so exchanges and regroupings alone are among the steps of all three, and spreadings alone.
-abbrev pub WiderRule : Type 1
-WiderRule = (R S : Rule) → ((φ ψ : Term) → R φ ψ → S φ ψ) → (v w : List ℕ) → WordSteps R v w → WordSteps S v w
+StepsKeepJudgement = (φ ψ : Term) → Steps φ ψ → (e : Bool) → judge e φ ≡ judge e ψ
 
 -- Words that begin with those of one term begin with those of no other, and the same words are left over.
 abbrev pub WordsAreOneTerm : Type 0

@@ -1,14 +1,8 @@
--- Rewriting a policy, on terms and on words: by exchanging and regrouping (document 01, "Equal forms"), by spreading (document 02, E9), or
--- by all three.
-use Rattle.std.specs.Prelude.{◌≡◌, Bool, true, false, List, ◌++◌, ℕ}
+-- Exchanging and regrouping (document 01, "Equal forms"), on terms and on words.
+use Rattle.std.specs.Prelude.{◌≡◌, List, ◌++◌, ℕ}
 use Rattle.std.proofs.Math.Bool.{So}
-use Rattle.soda.specs.Terms.{Op, either, both, together, apart, Term, ¬ᵗ◌, ◌⁺, bin}
+use Rattle.soda.specs.Terms.{Op, Term, ¬ᵗ◌, ◌⁺, bin}
 use Rattle.soda.specs.Words.{fits, encode}
-
--- ── the rules ──
--- which term becomes which
-abbrev pub Rule : Type 1
-Rule = Term → Term → Type 0
 
 -- Exchanging turns operator, A, B into operator, B, A; regrouping turns operator, operator, A, B, C into operator, A, operator,
 -- B, C or back, one operator throughout.
@@ -17,52 +11,30 @@ pub data Turn : Term → Term → Type 0 where
   regroup : (op : Op) (a b c : Term) → Turn (bin op (bin op a b) c) (bin op a (bin op b c))
   back : (op : Op) (a b c : Term) → Turn (bin op a (bin op b c)) (bin op (bin op a b) c)
 
--- 02, E9: "together, apart and both each spread over either, on both sides"
-abbrev pub spreads : Op → Bool
-spreads either = false
-spreads both = true
-spreads together = true
-spreads apart = true
-
--- Spreading turns operator, A, either, B, C into either, operator, A, B, operator, A, C, and with A as the second side likewise; gathering
--- is the way back.
-pub data Spread : Term → Term → Type 0 where
-  spread_right : (op : Op) (a b c : Term) → So (spreads op) → Spread (bin op a (bin either b c)) (bin either (bin op a b) (bin op a c))
-  spread_left : (op : Op) (a b c : Term) → So (spreads op) → Spread (bin op (bin either b c) a) (bin either (bin op b a) (bin op c a))
-  gather_right : (op : Op) (a b c : Term) → So (spreads op) → Spread (bin either (bin op a b) (bin op a c)) (bin op a (bin either b c))
-  gather_left : (op : Op) (a b c : Term) → So (spreads op) → Spread (bin either (bin op b a) (bin op c a)) (bin op (bin either b c) a)
-
--- any of them
-pub data Rewrite : Term → Term → Type 0 where
-  turned : {a b : Term} → Turn a b → Rewrite a b
-  spread : {a b : Term} → Spread a b → Rewrite a b
-
--- ── on terms ──
--- the rule once, anywhere in a term
-pub data Step (R : Rule) : Term → Term → Type 0 where
-  here : {a b : Term} → R a b → Step R a b
-  in_not : {a b : Term} → Step R a b → Step R (¬ᵗ a) (¬ᵗ b)
-  in_plus : {a b : Term} → Step R a b → Step R (a ⁺) (b ⁺)
-  in_left : {op : Op} {a b c : Term} → Step R a b → Step R (bin op a c) (bin op b c)
-  in_right : {op : Op} {a b c : Term} → Step R b c → Step R (bin op a b) (bin op a c)
+-- one turn, anywhere in a term
+pub data Step : Term → Term → Type 0 where
+  here : {a b : Term} → Turn a b → Step a b
+  in_not : {a b : Term} → Step a b → Step (¬ᵗ a) (¬ᵗ b)
+  in_plus : {a b : Term} → Step a b → Step (a ⁺) (b ⁺)
+  in_left : {op : Op} {a b c : Term} → Step a b → Step (bin op a c) (bin op b c)
+  in_right : {op : Op} {a b c : Term} → Step b c → Step (bin op a b) (bin op a c)
 
 -- any number of steps, even none
-pub data Steps (R : Rule) : Term → Term → Type 0 where
-  none : {a : Term} → Steps R a a
-  step : {a b c : Term} → Step R a b → Steps R b c → Steps R a c
+pub data Steps : Term → Term → Type 0 where
+  none : {a : Term} → Steps a a
+  step : {a b c : Term} → Step a b → Steps b c → Steps a c
 
--- ── on words ──
--- one step from v to w: a whole term, whose words stand between `before` and `after`, is rewritten
-pub record WordStep (R : Rule) (v w : List ℕ) : Type 0 where
+-- one turn on words, from v to w: a whole term, whose words stand between `before` and `after`, is turned
+pub record WordStep (v w : List ℕ) : Type 0 where
   pub before : List ℕ
   pub after : List ℕ
   pub old : Term
   pub new : Term
-  pub rule : R old new
+  pub turn : Turn old new
   pub layout : So (fits old)
   pub is_old : v ≡ before ++ (encode old ++ after)
   pub is_new : w ≡ before ++ (encode new ++ after)
 
-pub data WordSteps (R : Rule) : List ℕ → List ℕ → Type 0 where
-  none : {v w : List ℕ} → v ≡ w → WordSteps R v w
-  step : {u v w : List ℕ} → WordStep R u v → WordSteps R v w → WordSteps R u w
+pub data WordSteps : List ℕ → List ℕ → Type 0 where
+  none : {v w : List ℕ} → v ≡ w → WordSteps v w
+  step : {u v w : List ℕ} → WordStep u v → WordSteps v w → WordSteps u w
