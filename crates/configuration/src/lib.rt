@@ -1,4 +1,5 @@
 // The configuration: who holds which roles, and which roles give which actions.
+#![tactic(auto)]
 
 mod configurations;
 mod lists;

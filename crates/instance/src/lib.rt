@@ -1,4 +1,5 @@
 // The instance: a policy and a workflow with the actions taken under them, over a configuration.
+#![tactic(auto)]
 
 mod enabling;
 mod instances;

@@ -1,4 +1,5 @@
 // The judge (document 01): reads a case file from standard input and prints its text.
+#![tactic(auto)]
 use casefile::{LIMIT, Printed};
 use libc::{STDIN_FILENO, STDOUT_FILENO};
 

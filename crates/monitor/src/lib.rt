@@ -1,4 +1,5 @@
 // The monitor of a quote by value: opening one, one event, the status, and who may act.
+#![tactic(auto)]
 mod evaluation;
 mod events;
 mod monitors;

@@ -1,4 +1,5 @@
 // Reading a policy's text (document 02, E7).
+#![tactic(auto)]
 mod copying;
 mod numerals;
 mod reader;

@@ -8,3 +8,4 @@ pub mod Accepted
 pub mod Faults
 pub mod Places
 pub mod Examples
+mod Overs

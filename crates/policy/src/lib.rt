@@ -1,4 +1,6 @@
 // Policy words: their parts, and reading a policy.
+#![tactic(auto)]
+
 pub mod codes;
 pub mod kinds;
 mod reader;

@@ -1,4 +1,5 @@
 // Writing a policy's text (document 02, E7).
+#![tactic(auto)]
 mod numerals;
 mod sets;
 mod writer;

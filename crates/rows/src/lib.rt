@@ -1,6 +1,7 @@
 // Rows, masks and notes of sets of actions, each packed into a number, and twins of sets. They stand below the workspace, whose check
 // takes much longer than theirs.
 // A row packs both columns: bit i says whether a set satisfies the term at word i, bit 32 + i whether it is possible for it.
+#![tactic(auto)]
 mod columns;
 mod notes;
 mod twins;

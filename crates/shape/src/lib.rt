@@ -1,4 +1,5 @@
 // The shape of a policy: the words of each kind, and where right sides begin.
+#![tactic(auto)]
 ghost use Rattle.std.specs.Prelude.{◌≡◌, ◌≤◌, length};
 ghost use Rattle.std.proofs.Math.Option.{none};
 ghost use Rattle.shape.specs.Shapes.{shape_in, shape_of};

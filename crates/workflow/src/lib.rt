@@ -1,5 +1,6 @@
 // Permissions and workflow, the two parts of a secure workflow process (document 004, section 3.2; document 02: permission sheet and work
 // plan): read from bytes, tested, and asked.
+#![tactic(auto)]
 mod bytes;
 mod permissions;
 mod reading;
