@@ -1,3 +1,4 @@
 pub mod Stacks
 pub mod Units
 pub mod Examples
+mod Each

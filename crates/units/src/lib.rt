@@ -1,5 +1,6 @@
 // Unit terms of a policy's words: which words begin them, and which of them a user meets.
 #![tactic(auto)]
+
 ghost use Rattle.std.specs.Prelude.{◌≡◌};
 ghost use Rattle.units.specs.Units.{unit_words, met_of, met_each, survey_of};
 

@@ -9,7 +9,7 @@ use policy::{kind_of, kinds, operand_of, put};
 // A row of terms, read from the last word to the first, in bits: whether each is a unit term, the lowest bit for the first term, with
 // a bit set above the last; whether the user meets each; whether all are well formed; and masks over their words: those that begin unit
 // terms, and the unit terms that the user meets.
-#[derive(Drop)]
+#[derive(Clone, Copy)]
 struct Stack {
     unit: u32,
     met: u32,
