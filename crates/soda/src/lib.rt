@@ -4,7 +4,7 @@ ghost use Rattle.std.specs.Prelude.{◌≡◌};
 
 // A taken action (document 01): its user, and bit i of met for whether the user met the unit term at word i.
 #[repr(C)]
-#[derive(Drop)]
+#[derive(Clone, Copy)]
 pub struct Action {
     pub user: u32,
     pub met: u32,
@@ -24,7 +24,7 @@ impl Action {
 
 // A transition of a workflow (document 02: an arrow): in its state, its action leads to the next state.
 #[repr(C)]
-#[derive(Drop)]
+#[derive(Clone, Copy)]
 pub struct Transition {
     pub state: u8,
     pub action: u8,
@@ -32,7 +32,7 @@ pub struct Transition {
 }
 
 // Where an action leads from a state: to a state, or nowhere.
-#[derive(Drop)]
+#[derive(Clone, Copy)]
 pub enum Successor {
     To(u8),
     Nowhere,
