@@ -1,6 +1,7 @@
 // Permissions and workflow, the two parts of a secure workflow process (document 004, section 3.2; document 02: permission sheet and work
 // plan): read from bytes, tested, and asked.
 #![tactic(auto)]
+
 mod bytes;
 mod permissions;
 mod reading;
@@ -15,7 +16,7 @@ use soda::Transition;
 // A workflow: its transitions, the set of its final states, bit s for state s, and how many states and transitions there are. It starts in
 // state 0. Transitions past their number are zero. A workflow that is not given is all zero.
 #[repr(C)]
-#[derive(Drop)]
+#[derive(Clone, Copy)]
 pub struct Workflow {
     pub transitions: [Transition; 64],
     pub final_states: u16,
