@@ -36,8 +36,8 @@ bit-and i a b =
     ap (λ n. eqb (n % 2) 1) (and_shr a b i) ∙ ap (λ n. eqb n 1) (and_mod (a / 2 ^ i) (b / 2 ^ i) 1)
     ∙ digit_and (a / 2 ^ i % 2) (b / 2 ^ i % 2) (below_two (a / 2 ^ i)) (below_two (b / 2 ^ i))
 
-pub bit_or : (i a b : ℕ) → bit i (bit_or a b) ≡ (bit i a || bit i b)
-bit_or i a b =
+pub bit-or : (i a b : ℕ) → bit i (bit_or a b) ≡ (bit i a || bit i b)
+bit-or i a b =
     ap (λ n. eqb (n % 2) 1) (or_shr a b i) ∙ ap (λ n. eqb n 1) (or_mod (a / 2 ^ i) (b / 2 ^ i) 1)
     ∙ digit_or (a / 2 ^ i % 2) (b / 2 ^ i % 2) (below_two (a / 2 ^ i)) (below_two (b / 2 ^ i))
 

@@ -2,6 +2,7 @@
 // takes much longer than theirs.
 // A row packs both columns: bit i says whether a set satisfies the term at word i, bit 32 + i whether it is possible for it.
 #![tactic(auto)]
+
 mod columns;
 mod notes;
 mod twins;
