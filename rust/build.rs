@@ -1,5 +1,5 @@
-//! Links the proved library: `liboskhrein.a`, as `tools/install` names it, or `libembed.a`, as `rt
-//! staticlib embed` does. It is in the folder that `OSKHREIN_LIB_DIR` names, else in the
+//! Links the proved library: `liboskhrein.a`, as `tools/install` names it, or `libembed.a`, as
+//! `tools/build embed` does. It is in the folder that `OSKHREIN_LIB_DIR` names, else in the
 //! repository's `target/staticlib`.
 
 use std::env;
@@ -17,7 +17,7 @@ fn main() {
         let [installed, built] = NAMES.map(|name| archive(&folder, name).display().to_string());
         eprintln!(
             "oskhrein: the proved library is missing: there is neither {installed} nor {built}.\n\
-             Make it with `rt staticlib embed` in the repository, or set OSKHREIN_LIB_DIR to the \
+             Make it with `tools/build embed` in the repository, or set OSKHREIN_LIB_DIR to the \
              folder that it is in."
         );
         exit(1);

@@ -177,10 +177,18 @@ fn with_numbers(code: &str) -> String {
     code
 }
 
+/// Whether a line is an attribute that only Rattle reads, or one that is put anew.
+fn is_rattles(line: &str) -> bool {
+    let line = line.trim_start();
+    ["#[unsafe(no_mangle)]", "#[repr(C)]", "#[derive(", "#[cycle(", "#[tactic(", "#![tactic("]
+        .iter()
+        .any(|start| line.starts_with(start))
+}
+
 /// The code with its attributes for Rust.
 fn with_attributes(code: &str) -> String {
     let mut lines = Vec::new();
-    for line in code.lines().filter(|line| !["#[no_mangle]", "#[repr(C)]"].contains(line)) {
+    for line in code.lines().filter(|line| !is_rattles(line)) {
         let item = line.trim_start_matches("pub ").trim_start_matches("pub(crate) ");
         if item.starts_with("struct ") {
             lines.push("#[derive(Clone, Copy)]\n#[repr(C)]");

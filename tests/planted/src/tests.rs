@@ -4,18 +4,20 @@ use super::*;
 
 #[test]
 fn contracts_and_ghosts_are_dropped() {
-    let source = "ghost use Prim.Nat.{_+_};
+    let source = "#![tactic(auto)]
+ghost use Rattle.std.specs.Prelude.{◌+◌};
+
 // One more; it requires nothing.
 fn more(n: u8) -> u8
-    requires { ⌜ n < 255 ⌝ }
-    ensures bounded { λ r. ⌜ record { a = r } ≡ record { a = n + 1 } ⌝ }
+    requires { n < 255 }
+    ensures bounded { record { a = result } ≡ record { a = n + 1 } }
 {
     if n < 255 { n + 1 } else { n }
 }
 ";
     let code = to_rust(source);
     assert!(code.contains("// One more; it requires nothing.\nfn more(n: u8) -> u8\n"));
-    assert!(!code.contains("ghost") && !code.contains('⌜') && !code.contains("bounded"));
+    assert!(!code.contains("ghost") && !code.contains("tactic") && !code.contains("bounded"));
     assert!(code.ends_with("{\n    if n < 255 { n + 1 } else { n }\n}\n"));
 }
 
@@ -27,19 +29,19 @@ fn numbers_wrap_by_rusts_names() {
 
 #[test]
 fn structs_and_enums_are_copied() {
-    let code = to_rust("pub struct A {\n    pub b: u8,\n}\nenum E {\n    X,\n}\n");
+    let code = to_rust("#[derive(Drop)]\npub struct A {\n    pub b: u8,\n}\nenum E {\n    X,\n}\n");
     assert!(code.starts_with("#[derive(Clone, Copy)]\n#[repr(C)]\npub struct A {\n"));
     assert!(code.contains("}\n#[derive(Clone, Copy)]\nenum E {\n"));
 }
 
 #[test]
 fn the_c_boundary_is_made_from_the_signatures() {
-    let source = "#[no_mangle]\npub extern \"C\" fn f(
+    let source = "#[unsafe(no_mangle)]\npub extern \"C\" fn f(
     a: &mut A,
     b: &[u8; 16],
     c: &[u32],
     d: &mut [u16],
-) -> u8\n    ensures { ⌜ true ⌝ }\n{\n    0\n}
+) -> u8\n    ensures { result < 256 }\n{\n    0\n}
 pub extern \"C\" fn g() -> u32 {\n    1\n}\n";
     let code = to_rust(source);
     assert!(code.starts_with("pub fn f(\n    a: &mut A,\n"), "{code}");
