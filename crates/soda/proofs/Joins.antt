@@ -1,20 +1,32 @@
--- The sides of an operator may change places, and three may be regrouped: exchanging and regrouping change no judgement.
-use mathlib.Core.Path.{◌≡◌, refl, sym, ◌∙◌, ap, fun_ext}
+-- The sides of an operator may change places, three may be regrouped, and all but either spread over either: none of it changes a judgement.
+use mathlib.Core.Path.{◌≡◌, refl, sym, ◌∙◌, ap, ap₂, fun_ext}
 use mathlib.Core.Logic.{◌⊎◌, inl, inr}
-use mathlib.Core.Bool.{Bool, false, So, not, ◌||◌, and_comm, and_assoc, or_comm, or_assoc, false≢true}
+use mathlib.Core.Bool.{Bool, true, false, So, not, ◌&&◌, ◌||◌, and_comm, and_assoc, and-or_distrib_left, or_comm, or_assoc, false≢true}
 use mathlib.Core.List.{List, [], ◌∷◌}
 use Prim.Native.Nat.{ℕ}
 use lib.Dec.{eqb}
-use Rattle.soda.specs.Lists.{Split, nil, left, right}
+use Rattle.soda.specs.Lists.{any, splits, Split, nil, left, right}
 use Rattle.soda.specs.Terms.{Op, either, both, together, apart, Term, bin}
 use Rattle.soda.specs.Roles.{meets_op, meets_not}
 use Rattle.soda.specs.Tables.{single, several, acts, disjoint, join, table, Execution, met_by, judge}
-use Rattle.soda.specs.Steps.{Steps}
+use Rattle.soda.specs.Rewriting.{spreads, Rewrite, RuleSteps}
 use Rattle.soda.specs.EqualForms.{StepsKeepJudgement}
-use Rattle.soda.proofs.Bools.{and_split, and-join, or_split, or_left, or_right, same_test, not_so, so_eq, eq_so}
+use Rattle.soda.specs.Spreading.{RewriteKeepsJudgement}
+use Rattle.soda.proofs.Bools.{never, and_split, and-join, or_split, or_left, or_right, same_test, not_so, so_eq, eq_so}
 use Rattle.soda.proofs.Splits.{split_swap, split_assoc}
-use Rattle.soda.proofs.Steps.{steps_keep}
+use Rattle.soda.proofs.Rewriting.{steps_are-rewrites, rewrites_keep}
 use Rattle.soda.proofs.Tables.{Judgement, together_out, together_in, apart_out, apart_in, who, judge-bin}
+
+-- ── any of two tests ──
+or_middle : (a b c d : Bool) → ((a || b) || (c || d)) ≡ ((a || c) || (b || d))
+or_middle true b c d = refl
+or_middle false true true d = refl
+or_middle false true false d = refl
+or_middle false false c d = refl
+
+any_or : {A : Type 0} (f g : A → Bool) (l : List A) → any (λ x. f x || g x) l ≡ (any f l || any g l)
+any_or f g [] = refl
+any_or f g (x ∷ l) = ap (λ (b : Bool). (f x || g x) || b) (any_or f g l) ∙ or_middle (f x) (g x) (any f l) (any g l)
 
 -- ── who acts ──
 module _ {A : Type 0} (user : A → ℕ) where
@@ -125,6 +137,18 @@ module _ {A : Type 0} (user : A → ℕ) where
   join_assoc together f g h s = regroup-both together regroup-together f g h s
   join_assoc apart f g h s = regroup-both apart regroup-apart f g h s
 
+  -- ── spreading over either ──
+  pub join-spread : (op : Op) (f g h : Judgement A) (s : List A) → So (spreads op)
+      → join user op f (join user either g h) s ≡ join user either (join user op f g) (join user op f h) s
+  join-spread either f g h s e = never e
+  join-spread both f g h s e = and-or_distrib_left (f s) (g s) (h s)
+  join-spread together f g h s e = ap (λ (t : List A × List A → Bool). any t (splits s)) (fun_ext (λ p. and-or_distrib_left (f p.0) (g p.1) (h p.1)))
+      ∙ any_or (λ p. f p.0 && g p.1) (λ p. f p.0 && h p.1) (splits s)
+  join-spread apart f g h s e = ap (λ (t : List A × List A → Bool). any t (splits s))
+      (fun_ext (λ p. ap (λ (b : Bool). disjoint user p.0 p.1 && b) (and-or_distrib_left (f p.0) (g p.1) (h p.1))
+      ∙ and-or_distrib_left (disjoint user p.0 p.1) (f p.0 && g p.1) (f p.0 && h p.1)))
+      ∙ any_or (λ p. disjoint user p.0 p.1 && (f p.0 && g p.1)) (λ p. disjoint user p.0 p.1 && (f p.0 && h p.1)) (splits s)
+
 -- ── terms ──
 meets_op_comm : (op : Op) (x y : Bool) → meets_op op x y ≡ meets_op op y x
 meets_op_comm either x y = or_comm x y
@@ -137,6 +161,12 @@ meets_op_assoc either x y z = or_assoc x y z
 meets_op_assoc both x y z = and_assoc x y z
 meets_op_assoc together x y z = refl
 meets_op_assoc apart x y z = refl
+
+meets_op-spread : (op : Op) (x y z : Bool) → So (spreads op) → meets_op op x (y || z) ≡ (meets_op op x y || meets_op op x z)
+meets_op-spread either x y z e = never e
+meets_op-spread both x y z e = and-or_distrib_left x y z
+meets_op-spread together x y z e = refl
+meets_op-spread apart x y z e = refl
 
 -- what a term means in both columns' rows: when it is met, and its judgement; the row of a not or plus goes by the first
 abbrev meaning : Bool → Term → (Execution → Bool) × Judgement Execution
@@ -155,9 +185,15 @@ module _ (e : Bool) where
   judge_under : (op : Op) (a b c : Term) → judge e a ≡ judge e b → judge e (bin op a c) ≡ judge e (bin op b c)
   judge_under op a b c h = bin_law op a c ∙ ap (λ (f : Judgement Execution). join who op f (judge e c)) h ∙ sym (bin_law op b c)
 
-  steps_meaning : {φ ψ : Term} → Steps φ ψ → meaning e φ ≡ meaning e ψ
+  judge-spread : (op : Op) (a b c : Term) → So (spreads op) → judge e (bin op a (bin either b c)) ≡ judge e (bin either (bin op a b) (bin op a c))
+  judge-spread op a b c h =
+      bin_law op a (bin either b c) ∙ ap (λ (f : Judgement Execution). join who op (judge e a) f) (bin_law either b c)
+      ∙ fun_ext (λ s. join-spread who op (judge e a) (judge e b) (judge e c) s h)
+      ∙ sym (ap₂ (λ (f g : Judgement Execution). join who either f g) (bin_law op a b) (bin_law op a c)) ∙ sym (bin_law either (bin op a b) (bin op a c))
+
+  rewrites_meaning : {φ ψ : Term} → RuleSteps Rewrite φ ψ → meaning e φ ≡ meaning e ψ
   unfolding table
-  steps_meaning = steps_keep (meaning e)
+  rewrites_meaning = rewrites_keep (meaning e)
       (λ op a b i. (
         λ x. meets_op_comm op (met_by a x) (met_by b x) i,
         (bin_law op a b ∙ fun_ext (join_comm who op (judge e a) (judge e b)) ∙ sym (bin_law op b a)) i,
@@ -166,6 +202,10 @@ module _ (e : Bool) where
       (λ a b h i. (λ x. meets_not x.held ((h i).0 x), single e (λ x. meets_not x.held ((h i).0 x))))
       (λ a b h i. (λ x. false, several e (h i).0))
       (λ op a b c h i. (λ x. meets_op op ((h i).0 x) (met_by c x), judge_under op a b c (λ j. (h j).1) i))
+      (λ op a b c h i. (λ x. meets_op-spread op (met_by a x) (met_by b x) (met_by c x) h i, judge-spread op a b c h i))
+
+pub rewrites_keep_judgement : RewriteKeepsJudgement
+rewrites_keep_judgement φ ψ p e = λ i. (rewrites_meaning e p i).1
 
 pub steps_keep_judgement : StepsKeepJudgement
-steps_keep_judgement φ ψ p e = λ i. (steps_meaning e p i).1
+steps_keep_judgement φ ψ p = rewrites_keep_judgement φ ψ (steps_are-rewrites p)

@@ -10,7 +10,9 @@ pub mod Loops
 pub mod Terms
 pub mod Words
 pub mod Roles
--- Exchanging, regrouping and the normal form.
+-- Rewriting by a rule; exchanging, regrouping and the normal form; spreading.
+pub mod Rewriting
+pub mod WordRewriting
 pub mod Steps
 pub mod Normal
 pub mod WordSteps
@@ -18,6 +20,7 @@ pub mod EqualForms
 -- The table, and what it means.
 pub mod Tables
 pub mod Joins
+pub mod Spreading
 pub mod Parts
 pub mod Orders
 pub mod Notes

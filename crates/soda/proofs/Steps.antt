@@ -1,14 +1,17 @@
 -- Laws of turns and steps: they can be undone and joined, they reach into a term, and what they keep.
-use mathlib.Core.Path.{◌≡◌, refl, sym, ◌∙◌, ap, subst}
-use mathlib.Core.Bool.{Bool, true, false, not, ◌&&◌, cond, and_comm, and_assoc}
+use mathlib.Core.Path.{◌≡◌, ap, subst}
+use mathlib.Core.Bool.{cond}
 use mathlib.Core.List.{List, [], ◌∷◌, ◌++◌}
-use Prim.Native.Nat.{ℕ, ◌+◌, ◌^◌}
+use Prim.Native.Nat.{ℕ, ◌+◌}
 use native.Mathlib.Omega.{arith}
-use lib.Dec.{eqb, ltb}
+use lib.Dec.{eqb}
 use Rattle.soda.specs.Lists.{count}
-use Rattle.soda.specs.Terms.{Op, Term, ¬ᵗ◌, ◌⁺, bin, unit_op, unit, well_formed, size}
-use Rattle.soda.specs.Words.{op_word, encode, leaves, fits, declared}
+use Rattle.soda.specs.Terms.{Op, Term, ¬ᵗ◌, ◌⁺, bin, size}
+use Rattle.soda.specs.Words.{op_word, encode, fits, declared}
 use Rattle.soda.specs.Steps.{Turn, exchange, regroup, back, Step, here, in_not, in_plus, in_left, in_right, Steps}
+use Rattle.soda.specs.Spreading.{Kept}
+pub use Rattle.soda.proofs.Rewriting.{formed}
+use Rattle.soda.proofs.Rewriting.{steps_by_turn, steps_are-rewrites, turns_keep, rewrites-formed, rewrites_keep_form}
 
 -- ── steps as a relation ──
 turn-back : {a b : Term} → Turn a b → Turn b a
@@ -66,51 +69,21 @@ module _ {B : Type 0} (f : Term → B)
     (under-not : (a b : Term) → f a ≡ f b → f (¬ᵗ a) ≡ f (¬ᵗ b))
     (under-plus : (a b : Term) → f a ≡ f b → f (a ⁺) ≡ f (b ⁺))
     (under-bin : (op : Op) (a b c : Term) → f a ≡ f b → f (bin op a c) ≡ f (bin op b c)) where
-  turn_keeps : {a b : Term} → Turn a b → f a ≡ f b
-  turn_keeps (exchange op a b) = exchanged op a b
-  turn_keeps (regroup op a b c) = regrouped op a b c
-  turn_keeps (back op a b c) = sym (regrouped op a b c)
-
-  step_keeps : {a b : Term} → Step a b → f a ≡ f b
-  step_keeps (here t) = turn_keeps t
-  step_keeps (in_not {a} {b} s) = under-not a b (step_keeps s)
-  step_keeps (in_plus {a} {b} s) = under-plus a b (step_keeps s)
-  step_keeps (in_left {op} {a} {b} {c} s) = under-bin op a b c (step_keeps s)
-  step_keeps (in_right {op} {a} {b} {c} s) = exchanged op a b ∙ under-bin op b c a (step_keeps s) ∙ exchanged op c a
-
   pub steps_keep : {a b : Term} → Steps a b → f a ≡ f b
-  steps_keep Steps.none = refl
-  steps_keep (Steps.step s p) = step_keeps s ∙ steps_keep p
+  steps_keep {a} {b} p = turns_keep f exchanged regrouped under-not under-plus under-bin ((steps_by_turn a b).0 p)
 
--- unit and well formed together, as well formed asks for unit
-and-regroup : (w a b c : Bool) → (w && ((w && (a && b)) && c)) ≡ (w && (a && (w && (b && c))))
-and-regroup true a b c = and_assoc a b c
-and-regroup false a b c = refl
-
-abbrev pub formed : Term → Bool × Bool
-formed φ = (unit φ, well_formed φ)
+-- what spreading keeps too
+kept : {a b : Term} → Steps a b → Kept a b
+kept {a} {b} p = rewrites_keep_form a b (steps_are-rewrites p)
 
 pub steps-formed : {a b : Term} → Steps a b → formed a ≡ formed b
-steps-formed = steps_keep formed
-    (λ op a b i. (unit_op op && and_comm (unit a) (unit b) i, and_comm (well_formed a) (well_formed b) i))
-    (λ op a b c i. (and-regroup (unit_op op) (unit a) (unit b) (unit c) i, and_assoc (well_formed a) (well_formed b) (well_formed c) i))
-    (λ a b e i. ((e i).0, (e i).0 && (e i).1))
-    (λ a b e i. (false, (e i).0 && (e i).1))
-    (λ op a b c e i. (unit_op op && ((e i).0 && unit c), (e i).1 && well_formed c))
-
-steps-leaves : (f g : ℕ → Bool) {a b : Term} → Steps a b → leaves f g a ≡ leaves f g b
-steps-leaves f g = steps_keep (leaves f g)
-    (λ op a b. and_comm (leaves f g a) (leaves f g b))
-    (λ op a b c. and_assoc (leaves f g a) (leaves f g b) (leaves f g c))
-    (λ a b e. e)
-    (λ a b e. e)
-    (λ op a b c e i. e i && leaves f g c)
+steps-formed p = rewrites-formed (steps_are-rewrites p)
 
 pub steps-fits : {a b : Term} → Steps a b → fits a ≡ fits b
-steps-fits = steps-leaves (λ r. ltb r (2 ^ 16)) (λ m. ltb m (2 ^ 16))
+steps-fits p = (kept p).same_fits
 
 pub steps-declared : (users roles : ℕ) {a b : Term} → Steps a b → declared users roles a ≡ declared users roles b
-steps-declared users roles = steps-leaves (λ r. ltb r roles) (λ m. not (eqb m 0) && ltb m (2 ^ users))
+steps-declared users roles p = (kept p).same_declared users roles
 
 pub steps-size : {a b : Term} → Steps a b → size a ≡ size b
 steps-size = steps_keep size (λ op a b. omega arith) (λ op a b c. omega arith) (λ a b e. omega arith) (λ a b e. omega arith) (λ op a b c e. omega arith)

@@ -13,9 +13,11 @@ pub mod Csp
 pub mod Processes
 -- Equal forms.
 pub mod Steps
+pub mod Rewriting
 pub mod Normal
 -- What is proved of them.
 pub mod Laws
 pub mod Accuracy
 pub mod Secure
 pub mod EqualForms
+pub mod Spreading
