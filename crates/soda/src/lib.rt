@@ -1,5 +1,6 @@
 // The separation-of-duty algebra: definitions in specs/, theorems in proofs/, and the types that definitions and product share.
 #![tactic(auto)]
+
 ghost use Rattle.std.specs.Prelude.{◌≡◌};
 
 // A taken action (document 01): its user, and bit i of met for whether the user met the unit term at word i.
