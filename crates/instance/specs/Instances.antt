@@ -1,6 +1,6 @@
 -- The instance: a policy, a workflow and its present state, the actions taken under them, the closed mark and the letter of the status, over
 -- a configuration.
-use Rattle.std.specs.Prelude.{Bool, not, ◌&&◌, ◌||◌, cond, List, [], ℕ, ◌+◌, leb, ltb, eqb, length, take, drop, set as put, replicate}
+use Rattle.std.specs.Prelude.{Bool, not, ◌&&◌, ◌||◌, cond, List, ℕ, ◌+◌, leb, ltb, eqb, length, take, drop, set as put, replicate}
 use Rattle.std.specs.Int.Bits.{bit_and}
 use Rattle.soda.specs.Lists.{all, padded}
 use Rattle.soda.specs.Terms.{Term}

@@ -14,7 +14,7 @@ use workflow::Workflow;
 // closed mark: 0 is open, every other value closed, the letter of its status, and the workflow's present state. Words and places past their
 // numbers are zero, and without a workflow it, its state and the configuration's permissions are zero too.
 #[repr(C)]
-#[derive(Drop)]
+#[derive(Clone, Copy)]
 pub struct Instance {
     pub policy: [u32; 31],
     pub actions: [Action; 12],
@@ -27,14 +27,14 @@ pub struct Instance {
 }
 
 // Whether an instance is well formed over a configuration (part of number 15) and, if so, the unit terms that a user meets; else zero.
-#[derive(Drop)]
+#[derive(Clone, Copy)]
 pub struct Check {
     pub well_formed: bool,
     pub met: u32,
 }
 
 // What permissions and workflow say to an action: the state that it leads to, or the number of its refusal.
-#[derive(Drop)]
+#[derive(Clone, Copy)]
 pub enum Step {
     To(u8),
     Refused(u8),

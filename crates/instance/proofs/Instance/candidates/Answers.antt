@@ -1,10 +1,5 @@
 -- Nobody where the action leads nowhere; else the users who are permitted.
-use mathlib.Core.Path.{◌≡◌, sym, ap, ◌∙◌}
-use mathlib.Core.Bool.{Bool, not, ◌&&◌}
-use mathlib.Core.List.{map}
-use Prim.Native.Nat.{ℕ}
-use borrow.Author.Rules.{rules}
-use lib.Dec.{ltb}
+use Rattle.std.proofs.Common.{◌≡◌, ℕ, Bool, not, ◌&&◌, map, ltb, sym, ap, ◌∙◌}
 use Rattle.soda.specs.Lists.{range}
 use Rattle.soda.specs.Workflows.{is_somewhere}
 use Rattle.soda.specs.declared.Successor.{Successor}
@@ -16,8 +11,7 @@ use Rattle.instance.specs.Instances.{has_workflow}
 use Rattle.instance.specs.Steps.{is_authorized, leads_to}
 use Rattle.configuration.specs.Permitted.{gathered, no_candidates, permitted_users}
 use Rattle.instance.specs.Candidates.{candidates_of}
-use Rattle.instance.proofs.Instance.candidates.Statement.{statement}
-use Rattle.instance.proofs.Instance.candidates.Tie as tie
+use Rattle.instance.proofs.Instance.candidates.Goals as goal
 
 -- by where the action leads
 module _ (c : Configuration) (i : Instance) (a : ℕ) where
@@ -36,45 +30,12 @@ module _ (c : Configuration) (i : Instance) (a : ℕ) where
   unfolding by_successor
   nowhere e = sym (candidates_by Nowhere e)
 
-successor-requires : tie.Need-successor-requires
-successor-requires c κs = search rules
-
-enum_told : tie.Need-enum-told
-enum_told c = search rules
-
-is-given-requires : tie.Need-is-given-requires
-is-given-requires c κs = search rules
-
-permitted-requires : tie.Need-permitted-requires
-permitted-requires c κs = search rules
-
-enum-told-2 : tie.Need-enum-told-2
-enum-told-2 c = search rules
-
-returns : tie.Need-returns
-returns c =
-    let g = c.before in
-    let t = g.before in
-    let r = t.before.before.before in
-    let a = r.before.args in
+pub returns-in-To : goal.returns-in-To
+returns-in-To c =
+    let a = c.args in
     c.permitted.ensures
-    ∙ ap (λ (b : Bool). permitted_users a.configuration a.action (not b)) g.is-given.ensures
-    ∙ somewhere a.configuration a.self a.action _ (sym r.successor.ensures ∙ t.enum_told.given.1)
+    ∙ ap (λ (b : Bool). permitted_users a.configuration a.action (not b)) c.is_given.ensures
+    ∙ somewhere a.configuration a.self a.action c.in-To.field-0 (sym c.in-To.ensures)
 
-returns-2 : tie.Need-returns-2
-returns-2 c =
-    let r = c.before.before.before in
-    let a = r.before.args in
-    nowhere a.configuration a.self a.action (sym r.successor.ensures ∙ c.enum-told2.given.1)
-
-pub candidates_spec : {M : Type 1} → statement M
-candidates_spec =
-    tie.close
-    (tie.spec
-    successor-requires
-    enum_told
-    is-given-requires
-    permitted-requires
-    enum-told-2
-    returns
-    returns-2)
+pub returns-in-Nowhere : goal.returns-in-Nowhere
+returns-in-Nowhere c = let a = c.args in nowhere a.configuration a.self a.action (sym c.in-Nowhere.ensures)
