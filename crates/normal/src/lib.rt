@@ -1,5 +1,6 @@
 // The normal form of a policy (document 01, "Normal form").
 #![tactic(auto)]
+
 ghost use Rattle.std.specs.Prelude.{◌≡◌, ◌+◌, ◌≤◌, ◌<◌, length, drop};
 ghost use Rattle.std.proofs.Math.Seq.{paste};
 ghost use Rattle.soda.specs.Words.{words_le};

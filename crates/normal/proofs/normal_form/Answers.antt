@@ -1,14 +1,8 @@
 -- The reader's answer decides: a refusal is passed on, and an accepted policy is the words of one term, whose normal form is written.
-use mathlib.Core.Path.{◌≡◌, refl, sym, ap, ◌∙◌}
+use Rattle.std.proofs.Common.{◌≡◌, ℕ, ◌≤◌, ◌<◌, Bool, true, false, cond, List, [], ◌∷◌, length, ltb, eqb, refl, sym, ap, ◌∙◌, arith, eqb-true, ne_eqb, lt-ltb, le-ltb}
+use Rattle.std.proofs.lemmas.Bool.{eqb-false}
 use mathlib.Core.Logic.{◌≢◌}
-use mathlib.Core.Bool.{Bool, true, false, cond}
-use mathlib.Core.List.{List, [], ◌∷◌, append-nil}
-use Prim.Native.Nat.{ℕ, ◌≤◌, ◌<◌}
-use native.Mathlib.Omega.{arith}
-use lib.Dec.{ltb, eqb}
-use lib.ListN.{length}
-use borrow.Author.Rules.{rules}
-use borrow.Author.Tests.{eqb-true, eqb-false, ne_eqb, lt-ltb, le-ltb}
+use mathlib.Core.List.{append-nil}
 use Rattle.soda.specs.Terms.{size}
 use Rattle.soda.specs.Words.{encode}
 use Rattle.soda.proofs.Bools.{by_test}
@@ -26,8 +20,7 @@ use Rattle.policy.specs.declared.PolicyRead.{PolicyRead}
 use Rattle.policy.specs.declared.PolicyRead.TheVariants.{Accepted, Refused}
 use Rattle.policy.proofs.Refusals.{clear, code_front, code-behind}
 use Rattle.policy.proofs.Accepted.{read_is-encode, policy-is-words, decode-is-term}
-use Rattle.normal.proofs.normal_form.Statement.{statement}
-use Rattle.normal.proofs.normal_form.Tie as tie
+use Rattle.normal.proofs.normal_form.Goals as goal
 
 -- ── the answer ──
 -- from the reader's answer and the output's length
@@ -119,78 +112,40 @@ module _ (users roles : ℕ) (ws out : List ℕ) where
         let l : length ws ≡ size r.0 = ap length r.1.written ∙ encode-length r.0 in
         (f spelt).1 ∙ rw (← accepted, decode-is-term users roles ws r.0 r.1, l)
 
--- ── the answers ──
-read-requires : tie.Need-read-requires
-read-requires c κs = search rules
+-- ── the goals ──
+pub returns-in_default-clause-value : goal.returns-in_default-clause-value
+returns-in_default-clause-value c =
+    let a = c.args in
+    let q = refused a.users a.roles a.words.now a.out.now c.in_default.field-0 (sym c.read-answer.ensures ∙ c.in_default.is) in
+    c.code_of.ensures ∙ ap code_read c.in_default.is ∙ q.0
 
-enum-known-answer : tie.Need-enum-known-answer
-enum-known-answer c = search rules
+pub returns-in_default-clause-out_after : goal.returns-in_default-clause-out_after
+returns-in_default-clause-out_after c =
+    let a = c.args in
+    (refused a.users a.roles a.words.now a.out.now c.in_default.field-0 (sym c.read-answer.ensures ∙ c.in_default.is)).1
 
-enum_told : tie.Need-enum-told
-enum_told c = search rules
+pub returns-then-out-n-clause-value : goal.returns-then-out-n-clause-value
+returns-then-out-n-clause-value c =
+    let a = c.args in
+    (no_room a.users a.roles a.words.now a.out.now _ _ (sym c.read-answer.ensures ∙ c.in-Accepted.is) c.if-out-n.true).0
 
-code-of-requires : tie.Need-code-of-requires
-code-of-requires c κs = search rules
+pub returns-then-out-n-clause-out_after : goal.returns-then-out-n-clause-out_after
+returns-then-out-n-clause-out_after c =
+    let a = c.args in
+    (no_room a.users a.roles a.words.now a.out.now _ _ (sym c.read-answer.ensures ∙ c.in-Accepted.is) c.if-out-n.true).1
 
-returns : tie.Need-returns
-returns c =
-    let r = c.before.before.before in
-    let a = r.before.before.before.args in
-    let told = c.before.enum_told.given in
-    let q = refused a.users a.roles a.words.now a.out.now told.0.0 (sym r.read.ensures ∙ told.1) in
-    (c.code_of_lem.ensures ∙ ap code_read told.1 ∙ q.0, q.1)
+-- the policy is accepted, and there is room for it
+pub normal_term-requires : goal.normal_term-requires
+normal_term-requires c =
+    let a = c.args in
+    spelt a.users a.roles a.words.now a.out.now _ _ (sym c.read-answer.ensures ∙ c.in-Accepted.is) c.if-out-n.false
 
--- the policy is accepted
-abbrev asked : tie.After-known-told → tie.After-read
-asked c = c.before.before.before
+pub returns-clause-value : goal.returns-clause-value
+returns-clause-value c =
+    let a = c.args in
+    is_accepted a.users a.roles a.words.now a.out.now _ _ (sym c.read-answer.ensures ∙ c.in-Accepted.is) c.if-out-n.false
 
-abbrev start : tie.After-known-told → tie.Start
-start c = (asked c).before.before.before
-
-abbrev size_of : tie.After-known-told → ℕ
-size_of c = c.before.answer.given.0.0
-
-abbrev units_of : tie.After-known-told → ℕ
-units_of c = c.before.answer.given.0.1.0
-
-answered : (c : tie.After-known-told) → let a = (start c).args in read_policy a.users a.roles a.words.now ≡ Accepted (size_of c) (units_of c)
-answered c = sym (asked c).read.ensures ∙ c.before.answer.given.1
-
-returns-2 : tie.Need-returns-2
-returns-2 c =
-    let p = c.before in
-    let a = (start p).args in
-    no_room a.users a.roles a.words.now a.out.now (size_of p) (units_of p) (answered p) c.if1.true
-
-normal-term-requires : tie.Need-normal-term-requires
-normal-term-requires c κs =
-    let p = c.before.before in
-    let a = (start p).args in
-    spelt a.users a.roles a.words.now a.out.now (size_of p) (units_of p) (answered p) c.before.if1.false
-
-same_length : tie.Need-same-length
-same_length c = search rules
-
-returns-3 : tie.Need-returns-3
-returns-3 c =
-    let n = c.before.before in
-    let e = n.before.before in
-    let p = e.before in
-    let a = (start p).args in (
-      is_accepted a.users a.roles a.words.now a.out.now (size_of p) (units_of p) (answered p) e.if1.false,
-      written a.users a.roles a.words.now a.out.now (size_of p) (units_of p) (answered p) e.if1.false n.normal-term.ensures,
-    )
-
-pub normal-form_spec : {M : Type 1} → statement M
-normal-form_spec =
-    tie.close
-    (tie.spec
-    read-requires
-    enum-known-answer
-    enum_told
-    code-of-requires
-    returns
-    returns-2
-    normal-term-requires
-    same_length
-    returns-3)
+pub returns-clause-out_after : goal.returns-clause-out_after
+returns-clause-out_after c =
+    let a = c.args in
+    written a.users a.roles a.words.now a.out.now _ _ (sym c.read-answer.ensures ∙ c.in-Accepted.is) c.if-out-n.false c.normal_term.ensures
