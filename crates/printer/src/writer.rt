@@ -3,6 +3,7 @@ ghost use Rattle.std.specs.Prelude.{◌≤◌, length};
 ghost use Rattle.text.specs.Puts.{Put};
 ghost use Rattle.printer.specs.Private.{head_text, operator_text, leaf_text, NamesLeaf, Spelt, TermPut};
 
+use super::bytes;
 use super::numerals::put_numeral;
 use super::sets::put_set;
 use policy::kinds;

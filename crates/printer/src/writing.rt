@@ -3,6 +3,7 @@ ghost use Rattle.std.specs.Prelude.{◌≡◌, length};
 ghost use Rattle.text.specs.Writing.{write_answer, write_out};
 ghost use Rattle.printer.specs.Private.{PolicySpelt, PolicyPut};
 
+use super::bytes;
 use super::writer::put_term;
 use policy::{Code, PolicyRead, codes};
 use text::{Converted, OPENING};
