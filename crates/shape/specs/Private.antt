@@ -1,5 +1,5 @@
 -- What the crate's own functions answer: the words of each kind, a mask without another, and the right sides.
-use Rattle.std.specs.Prelude.{◌≡◌, List, [], map, ℕ, ◌-◌, ◌%◌, ◌<◌, eqb, get_or}
+use Rattle.std.specs.Prelude.{◌≡◌, List, map, ℕ, ◌-◌, ◌%◌, ◌<◌, eqb, get_or}
 use Rattle.std.proofs.Math.Option.{some}
 use Rattle.std.specs.Int.Bits.{bit_and}
 use Rattle.soda.specs.Lists.{padded}

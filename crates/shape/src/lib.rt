@@ -1,5 +1,6 @@
 // The shape of a policy: the words of each kind, and where right sides begin.
 #![tactic(auto)]
+
 ghost use Rattle.std.specs.Prelude.{◌≡◌, ◌≤◌, length};
 ghost use Rattle.std.proofs.Math.Option.{none};
 ghost use Rattle.shape.specs.Shapes.{shape_in, shape_of};
@@ -9,7 +10,7 @@ use policy::{kind_of, kinds};
 use units::units_of;
 
 // What the monitor needs of a policy: its length, the words that go by each row of the table, and where right sides begin.
-#[derive(Drop)]
+#[derive(Clone, Copy)]
 pub struct Shape {
     pub words: u8,
     pub units: u32,

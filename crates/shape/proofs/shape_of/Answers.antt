@@ -1,12 +1,6 @@
 -- What is found of the words, their kinds and the right sides, where they are one term of a policy's length.
-use mathlib.Core.Path.{◌≡◌, refl, sym, ◌∙◌, ap}
-use mathlib.Core.Bool.{Bool, true, false, cond}
-use mathlib.Core.List.{List}
-use mathlib.Core.Option.{Option, some, none}
-use Prim.Native.Nat.{ℕ, ◌≤◌, ◌<◌}
-use native.Mathlib.Omega.{arith}
-use lib.ListN.{length, get_or}
-use borrow.Author.Rules.{rules}
+use Rattle.std.proofs.Common.{◌≡◌, ℕ, ◌≤◌, ◌<◌, Bool, true, false, cond, List, length, get_or, refl, sym, ◌∙◌, ap, arith}
+use Rattle.std.proofs.Math.Option.{Option, some, none}
 use Rattle.soda.specs.Terms.{Op, either, both, together, apart, Term, unit, well_formed, size, marks}
 use Rattle.soda.specs.Words.{op_kind}
 use Rattle.soda.proofs.Bools.{by_test}
@@ -21,8 +15,7 @@ use Rattle.shape.specs.Shapes.{is_op, blank_shape, shape_in, shape_of}
 use Rattle.shape.specs.Private.{without_of, MasksOf, RightsOf}
 use Rattle.shape.specs.declared.Shape.{Shape}
 use Rattle.shape.proofs.Kinded.{plus-is, op_is}
-use Rattle.shape.proofs.shape_of.Statement.{statement}
-use Rattle.shape.proofs.shape_of.Tie as tie
+use Rattle.shape.proofs.shape_of.Goals as goal
 
 -- ── no term ──
 no_shape_of : (ws : List ℕ) → unit_words ws ≡ 0 → blank_shape ≡ shape_of ws
@@ -36,10 +29,8 @@ no_shape_of ws z = go (length_ok (length ws)) (decode ws) refl refl
         (λ f. absurd (zero-is_no_term ws z φ (record { long = l; is = d; formed = f })))
         λ f. rw f
 
-returns : tie.Need-returns
-returns c =
-    let t = c.before in
-    c.no-shape.ensures ∙ no_shape_of t.before.before.before.args.words.now (sym t.before.units_of.ensures ∙ t.if1.true)
+pub returns-then-units-eq0 : goal.returns-then-units-eq0
+returns-then-units-eq0 c = c.no_shape.ensures ∙ no_shape_of c.args.words.now (sym c.units_of-units.ensures ∙ c.if-units-eq0.true)
 
 -- ── the shape of a term ──
 abbrev shaped : ℕ → ℕ → List ℕ → List ℕ → Shape
@@ -75,44 +66,26 @@ module _ (ws masks right : List ℕ) (φ : Term) (o : OneTerm ws φ) where
       row : (op : Op) → op_kind op < 16 → without_of (get_or masks (op_kind op) 0) (marks unit φ) ≡ marks (is_op op) φ
       row op h = ap (λ (n : ℕ). without_of n (marks unit φ)) (m (op_kind op) h) ∙ op_is ws φ o.is op
 
-abbrev start : tie.Else1 → tie.Start
-start c = c.before.before.before
-
 -- the words are one term
-one : (c : tie.Else1) → let ws = (start c).args.words.now in (φ : Term) × OneTerm ws φ × (unit_words ws ≡ marks unit φ)
-one c = else_one-term (start c).args.words.now (λ z. c.if1.false (c.before.units_of.ensures ∙ z))
+one : (ws : List ℕ) (units : ℕ) → units ≡ unit_words ws → (units ≡ 0 → ⊥) → (φ : Term) × OneTerm ws φ × (unit_words ws ≡ marks unit φ)
+one ws units e n = else_one-term ws (λ z. n (e ∙ z))
 
-short : (c : tie.Else1) → length (start c).args.words.now ≤ 31
-short c = (length-range (length (start c).args.words.now) (one c).1.long).1
+short : (ws : List ℕ) (units : ℕ) → units ≡ unit_words ws → (units ≡ 0 → ⊥) → length ws ≤ 31
+short ws units e n = (length-range (length ws) (one ws units e n).1.long).1
 
-returns-2 : tie.Need-returns-2
-returns-2 c =
-    let w = c.before.before.before in
-    let r = w.before in
-    let m = r.before in
-    let e = m.before in
-    let ws = (start e).args.words.now in
-    rw (c.without4.ensures, c.before.without3.ensures, c.before.before.without2.ensures, w.without.ensures)
-    (ap (λ (units : ℕ). shaped (length ws) units m.kind-masks.result r.rights.result) (e.before.units_of.ensures ∙ (one e).2)
-    ∙ is_shape ws m.kind-masks.result r.rights.result (one e).0 (one e).1 m.kind-masks.ensures r.rights.ensures)
+pub kind_masks-masks-requires : goal.kind_masks-masks-requires
+kind_masks-masks-requires c = short c.args.words.now _ c.units_of-units.ensures c.if-units-eq0.false
 
-pub shape_of_spec : {M : Type 1} → statement M
-shape_of_spec =
-    tie.close
-    (tie.spec
-    (λ c κs. search rules)
-    (λ c κs. search rules)
-    returns
-    (λ c κs. short c)
-    (λ c κs. short c.before)
-    (λ c. omega (arith, short c.before.before))
-    (λ c. search rules)
-    (λ c. search rules)
-    (λ c κs. search rules)
-    (λ c. search rules)
-    (λ c κs. search rules)
-    (λ c. search rules)
-    (λ c κs. search rules)
-    (λ c. search rules)
-    (λ c κs. search rules)
-    returns-2)
+pub rights-right-requires : goal.rights-right-requires
+rights-right-requires c = short c.args.words.now _ c.units_of-units.ensures c.if-units-eq0.false
+
+pub overflow_cast-result : goal.overflow_cast-result
+overflow_cast-result c = omega (arith, short c.args.words.now _ c.units_of-units.ensures c.if-units-eq0.false)
+
+pub returns : goal.returns
+returns c =
+    let ws = c.args.words.now in
+    let o = one ws _ c.units_of-units.ensures c.if-units-eq0.false in
+    rw (c.without-4.ensures, c.without-3.ensures, c.without-2.ensures, c.without.ensures)
+    (ap (λ (units : ℕ). shaped (length ws) units c.kind_masks-masks.result c.rights-right.result) (c.units_of-units.ensures ∙ o.2)
+    ∙ is_shape ws c.kind_masks-masks.result c.rights-right.result o.0 o.1 c.kind_masks-masks.ensures c.rights-right.ensures)
