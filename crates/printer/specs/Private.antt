@@ -1,5 +1,5 @@
 -- The contracts of private functions: text put at an output's start.
-use Rattle.std.specs.Prelude.{◌≡◌, cond, List, [], ◌++◌, ℕ, ◌≤◌, ◌<◌, eqb, length}
+use Rattle.std.specs.Prelude.{◌≡◌, cond, List, ◌++◌, ℕ, ◌≤◌, ◌<◌, eqb, length}
 use Rattle.std.proofs.Math.Bool.{So}
 use Rattle.soda.specs.Terms.{Term, size}
 use Rattle.soda.specs.Words.{encode, declared}

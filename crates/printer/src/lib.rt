@@ -1,5 +1,6 @@
 // Writing a policy's text (document 02, E7).
 #![tactic(auto)]
+
 mod bytes;
 mod numerals;
 mod sets;

@@ -11,7 +11,7 @@ use Rattle.text.specs.Puts.{Put}
 use Rattle.text.specs.declared.Span.{Span}
 use Rattle.printer.specs.Private.{head_text, operator_text, Spelt, TermPut}
 use Rattle.text.proofs.Putting.{Begun, begun_inside, begun_within, part_room, part_put, byte_room, byte_put, all-put}
-use Rattle.printer.proofs.Spelling.{first_of, second_of, text_behind, None, First, One, Two, spelt-long, spelt-some, no_side, a_side, one_side, two-sides, leaf_room, leaf_put, head-room, head-put, first-spelt, first-put, one-put, operator_next, second-inside, second-spelt, second-put}
+use Rattle.printer.proofs.Spelling.{first_of, second_of, text_behind, None, First, Two, spelt-long, spelt-some, no_side, a_side, one_side, two-sides, leaf_room, leaf_put, head-room, head-put, first-spelt, first-put, one-put, operator_next, second-inside, second-spelt, second-put}
 use Rattle.printer.proofs.writer.+put_term.Goals as goal
 
 -- the first word is of kind k, and has m sides
@@ -105,15 +105,15 @@ pub put_head-start-requires : goal.put_head-start-requires
 put_head-start-requires t c = before c.args.words.now c.args.out.now c.requires c.kind_of-kind.ensures c.sides_of-sides.ensures c.if-sides-eq0.false
 
 pub put_term-a-requires : goal.put_term-a-requires
-put_term-a-requires t c = 
+put_term-a-requires t c =
     (omega (arith, c.decreases, from-length 1 c.args.words.now, spelt-some c.requires), to_first c.args.words.now c.args.out.now c.requires c.kind_of-kind.ensures c.sides_of-sides.ensures c.if-sides-eq0.false c.put_head-start.ensures)
 
 pub overflow_add-end : goal.overflow_add-end
-overflow_add-end t c = 
+overflow_add-end t c =
     omega (arith, begun_within (once c.args.words.now c.args.out.now c.requires c.kind_of-kind.ensures c.sides_of-sides.ensures c.if-sides-eq0.false c.put_head-start.ensures c.put_term-a.ensures).1)
 
 pub overflow_add-next : goal.overflow_add-next
-overflow_add-next t c = 
+overflow_add-next t c =
     omega (arith, next_inside c.args.words.now c.args.out.now c.requires c.kind_of-kind.ensures c.sides_of-sides.ensures c.if-sides-eq0.false c.put_head-start.ensures c.put_term-a.ensures)
 
 pub returns-then-sides-eq1 : goal.returns-then-sides-eq1
@@ -121,50 +121,49 @@ returns-then-sides-eq1 t c = λ s.
     alone c.args.words.now c.args.out.now s c.kind_of-kind.ensures c.sides_of-sides.ensures c.if-sides-eq0.false c.put_head-start.ensures c.put_term-a.ensures c.if-sides-eq1.true
 
 pub slice_bounds-put_operator-count : goal.slice_bounds-put_operator-count
-slice_bounds-put_operator-count t c = 
+slice_bounds-put_operator-count t c =
     begun_inside (next c.args.words.now c.args.out.now c.requires c.kind_of-kind.ensures c.sides_of-sides.ensures c.if-sides-eq0.false c.put_head-start.ensures c.put_term-a.ensures c.if-sides-eq1.false)
 
 pub slice_bounds-put_operator-start : goal.slice_bounds-put_operator-start
-slice_bounds-put_operator-start t c = 
+slice_bounds-put_operator-start t c =
     omega (arith, begun_inside (next c.args.words.now c.args.out.now c.requires c.kind_of-kind.ensures c.sides_of-sides.ensures c.if-sides-eq0.false c.put_head-start.ensures c.put_term-a.ensures c.if-sides-eq1.false))
 
 pub put_operator-requires : goal.put_operator-requires
-put_operator-requires t c = 
+put_operator-requires t c =
     between c.args.words.now c.args.out.now c.requires c.kind_of-kind.ensures c.sides_of-sides.ensures c.if-sides-eq0.false c.put_head-start.ensures c.put_term-a.ensures c.if-sides-eq1.false
 
 pub offset_bounds-words-next : goal.offset_bounds-words-next
-offset_bounds-words-next t c = 
+offset_bounds-words-next t c =
     omega (arith, word_inside c.args.words.now c.args.out.now c.requires c.kind_of-kind.ensures c.sides_of-sides.ensures c.if-sides-eq0.false c.put_head-start.ensures c.put_term-a.ensures c.if-sides-eq1.false)
 
 pub slice_bounds-put_term-count-3 : goal.slice_bounds-put_term-count-3
-slice_bounds-put_term-count-3 t c = 
+slice_bounds-put_term-count-3 t c =
     omega (arith, word_inside c.args.words.now c.args.out.now c.requires c.kind_of-kind.ensures c.sides_of-sides.ensures c.if-sides-eq0.false c.put_head-start.ensures c.put_term-a.ensures c.if-sides-eq1.false)
 
 pub slice_bounds-put_term-start-3 : goal.slice_bounds-put_term-start-3
-slice_bounds-put_term-start-3 t c = 
+slice_bounds-put_term-start-3 t c =
     omega (arith, word_inside c.args.words.now c.args.out.now c.requires c.kind_of-kind.ensures c.sides_of-sides.ensures c.if-sides-eq0.false c.put_head-start.ensures c.put_term-a.ensures c.if-sides-eq1.false)
 
 pub put_term-b-requires : goal.put_term-b-requires
-put_term-b-requires t c = 
-    (
-      omega (arith, c.decreases, from-length (1 + c.put_term-a.result.words) c.args.words.now, word_inside c.args.words.now c.args.out.now c.requires c.kind_of-kind.ensures c.sides_of-sides.ensures c.if-sides-eq0.false c.put_head-start.ensures c.put_term-a.ensures c.if-sides-eq1.false),
-      to_second c.args.words.now c.args.out.now c.requires c.kind_of-kind.ensures c.sides_of-sides.ensures c.if-sides-eq0.false c.put_head-start.ensures c.put_term-a.ensures c.if-sides-eq1.false c.put_operator.ensures,
-    )
+put_term-b-requires t c = (
+  omega (arith, c.decreases, from-length (1 + c.put_term-a.result.words) c.args.words.now, word_inside c.args.words.now c.args.out.now c.requires c.kind_of-kind.ensures c.sides_of-sides.ensures c.if-sides-eq0.false c.put_head-start.ensures c.put_term-a.ensures c.if-sides-eq1.false),
+  to_second c.args.words.now c.args.out.now c.requires c.kind_of-kind.ensures c.sides_of-sides.ensures c.if-sides-eq0.false c.put_head-start.ensures c.put_term-a.ensures c.if-sides-eq1.false c.put_operator.ensures,
+)
 
 pub overflow_add-close : goal.overflow_add-close
-overflow_add-close t c = 
+overflow_add-close t c =
     omega (arith, begun_within (twice c.args.words.now c.args.out.now c.requires c.kind_of-kind.ensures c.sides_of-sides.ensures c.if-sides-eq0.false c.put_head-start.ensures c.put_term-a.ensures c.if-sides-eq1.false c.put_operator.ensures c.put_term-b.ensures).1)
 
 pub bounds-out-close : goal.bounds-out-close
-bounds-out-close t c = 
+bounds-out-close t c =
     omega (arith, byte_room (twice c.args.words.now c.args.out.now c.requires c.kind_of-kind.ensures c.sides_of-sides.ensures c.if-sides-eq0.false c.put_head-start.ensures c.put_term-a.ensures c.if-sides-eq1.false c.put_operator.ensures c.put_term-b.ensures).1)
 
 pub overflow_add-result : goal.overflow_add-result
-overflow_add-result t c = 
+overflow_add-result t c =
     omega (arith, begun_within (byte_put (twice c.args.words.now c.args.out.now c.requires c.kind_of-kind.ensures c.sides_of-sides.ensures c.if-sides-eq0.false c.put_head-start.ensures c.put_term-a.ensures c.if-sides-eq1.false c.put_operator.ensures c.put_term-b.ensures).1))
 
 pub overflow_add-result-2 : goal.overflow_add-result-2
-overflow_add-result-2 t c = 
+overflow_add-result-2 t c =
     omega (arith, spelt-long c.requires, all_words c.args.words.now c.args.out.now c.requires c.kind_of-kind.ensures c.sides_of-sides.ensures c.if-sides-eq0.false c.put_head-start.ensures c.put_term-a.ensures c.if-sides-eq1.false c.put_operator.ensures c.put_term-b.ensures)
 
 pub returns : goal.returns

@@ -1,5 +1,5 @@
 -- By the kind: `all` is copied, a role's number stands behind its `r`, and a set lists its users.
-use Rattle.std.proofs.Common.{◌≡◌, ℕ, ◌+◌, ◌≤◌, ◌<◌, List, [], ◌∷◌, ◌++◌, length, sym, subst, ◌∙◌, append-nil, arith}
+use Rattle.std.proofs.Common.{◌≡◌, ℕ, ◌≤◌, List, [], ◌∷◌, ◌++◌, length, sym, subst, ◌∙◌, append-nil, arith}
 use Prim.Native.Char.{code}
 use lib.ListN.{set}
 use Rattle.text.specs.Texts.{numeral}

@@ -1,5 +1,5 @@
 -- The reader's answer decides: a refusal is passed on, and an accepted policy is the words of one term, whose text the array has room for.
-use Rattle.std.proofs.Common.{◌≡◌, ℕ, ◌≤◌, ◌<◌, List, [], ◌++◌, length, take, drop, replicate, refl, sym, ap, ◌∙◌, append-nil, arith}
+use Rattle.std.proofs.Common.{◌≡◌, ℕ, ◌≤◌, ◌<◌, List, [], length, take, drop, replicate, refl, sym, ap, ◌∙◌, append-nil, arith}
 use lib.Seq.{length-take-le, take_at}
 use Rattle.soda.specs.Terms.{Term}
 use Rattle.soda.specs.Words.{encode}
