@@ -1,3 +1,4 @@
+-- The word at i is pasted behind the first i.
 use Rattle.std.proofs.Common.{ℕ, ◌+◌, ◌<◌, List, length, get_or, set, sym, ap, ◌∙◌, add-one, arith}
 use Rattle.std.proofs.Math.ListN.{length-set}
 use Rattle.std.proofs.Math.Seq.{paste, paste-suc}
