@@ -1,9 +1,14 @@
--- Document 01's twelve settled examples hold: one computed test over the whole table. And who may act, computed on one policy.
-use mathlib.Core.Path.{◌≡◌, refl}
-use mathlib.Core.List.{List, [], ◌∷◌, map}
+-- Document 01's twelve settled examples hold: one computed test over the whole table. So do those of spreading. And who may act, computed on
+-- one policy.
+use mathlib.Core.Path.{◌≡◌, refl, sym}
+use mathlib.Core.Bool.{So}
+use mathlib.Core.List.{List, [], ◌∷◌, map, append-nil}
 use Prim.Native.Nat.{ℕ}
 use Rattle.soda.specs.Bits.{set_bit, clear_bit}
+use Rattle.soda.specs.Terms.{Op, either, together, apart, Term, role, bin, ◌⊙◌}
+use Rattle.soda.specs.Words.{encode, fits}
 use Rattle.soda.specs.Tables.{table as judgements}
+use Rattle.soda.specs.Rewriting.{spreads, Spread, spread_right, WordRuleSteps}
 use Rattle.policy.specs.Faults.{code_at}
 use Rattle.policy.specs.Reading.{read_policy}
 use Rattle.units.specs.Units.{met_of}
@@ -23,10 +28,37 @@ use Rattle.monitor.specs.Runs.{run, final}
 use Rattle.multiset.specs.MultisetTest.{test_refusals, test_of}
 use Rattle.claims.specs.Runs.{lines}
 use Rattle.claims.specs.Examples.{F, o, c, d, Settled}
+use Rattle.claims.specs.Spreading.{SpreadsTo, SpreadExamples}
 
 pub settled : Settled
 unfolding set_bit clear_bit judgements met_of code_at read_policy normal_words normal_refusals normal_out configuration_ok instance_ok open_refusals fresh opened admission read_event event_refusals test_refusals test_of run secure_ok secure_of not_given workflow_ok no_workflow is_authorized leads_to is_final
 settled = refl
+
+-- ── spreading ──
+-- the whole of a policy's words, in one step
+at_once : (op : Op) (a b c : Term) → So (spreads op) → So (fits (bin op a (bin either b c)))
+    → WordRuleSteps Spread (encode (bin op a (bin either b c))) (encode (bin either (bin op a b) (bin op a c)))
+at_once op a b c h f = WordRuleSteps.step (record {
+  before = [];
+  after = [];
+  old = bin op a (bin either b c);
+  new = bin either (bin op a b) (bin op a c);
+  rule = spread_right op a b c h;
+  layout = f;
+  is_old = sym (append-nil (encode (bin op a (bin either b c))));
+  is_new = sym (append-nil (encode (bin either (bin op a b) (bin op a c))));
+}) (WordRuleSteps.none refl)
+
+eight : Term
+eight = let r = role 0 in r ⊙ (r ⊙ (r ⊙ (r ⊙ (r ⊙ (r ⊙ (r ⊙ r))))))
+
+pub leads : SpreadsTo
+unfolding eight
+leads = (at_once together (role 0) (role 1) (role 2) refl refl, at_once apart eight (role 1) (role 2) refl refl)
+
+pub spread_examples : SpreadExamples
+unfolding set_bit clear_bit judgements met_of code_at read_policy normal_words normal_refusals normal_out configuration_ok instance_ok open_refusals fresh opened admission read_event event_refusals run secure_ok secure_of not_given workflow_ok no_workflow is_authorized leads_to is_final
+spread_examples = record { different = refl; plus = refl; either = refl; apart = refl }
 
 -- ── who may act ──
 -- user 0 counts (role 0), user 1 counts and approves (roles 0 and 1), user 2 holds no role; apart(role 0, role 1)

@@ -9,8 +9,9 @@ pub mod Accuracy
 -- The letter that a monitor keeps.
 pub mod Letters
 pub mod Multisets
--- Demand 3.
+-- Demand 3, and spreading.
 pub mod Alike
+pub mod Spreading
 pub mod EqualForms
 -- The mask kept beside a monitor.
 pub mod KeptMask

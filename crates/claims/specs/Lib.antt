@@ -7,3 +7,4 @@ pub mod EqualForms
 pub mod KeptMask
 pub mod Unassigned
 pub mod Examples
+pub mod Spreading
