@@ -1,5 +1,6 @@
 // A case in bytes: reading it, running it, and the text that the judge prints.
 #![tactic(auto)]
+
 ghost use Rattle.std.specs.Prelude.{◌≡◌, length};
 ghost use Rattle.casefile.specs.Texts.{printed, output};
 

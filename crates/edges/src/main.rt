@@ -1,5 +1,6 @@
 // The edges that documents 01 and 02 name, run through the calls: each line is what was asked and the number that it was answered.
 #![tactic(auto)]
+
 use monitor::{Enabled, Monitor, Opened, Status};
 use multiset::Verdict;
 use policy::Code;

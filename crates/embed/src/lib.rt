@@ -1,6 +1,7 @@
 // What a desk program links: the monitor's calls, exported for C, over a monitor where the program keeps it. A slice passes as its
 // pointer, then its length.
 #![tactic(auto)]
+
 ghost use Rattle.std.specs.Prelude.{◌≡◌, length};
 ghost use Rattle.policy.specs.Faults.{code_number};
 ghost use Rattle.normal.specs.NormalForms.{normal_code, normal_answer, normal_out};

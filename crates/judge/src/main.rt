@@ -1,5 +1,6 @@
 // The judge (document 01): reads a case file from standard input and prints its text.
 #![tactic(auto)]
+
 use casefile::{LIMIT, Printed};
 
 const STDIN_FILENO: i32 = 0;

@@ -1,5 +1,6 @@
 // The monitor of a quote by value: opening one, one event, the status, and who may act.
 #![tactic(auto)]
+
 mod evaluation;
 mod events;
 mod monitors;

@@ -1,5 +1,6 @@
 // The multiset test (document 01: the bag test): one action for each occurrence of a user, evaluated as taken actions are.
 #![tactic(auto)]
+
 ghost use Rattle.std.specs.Prelude.{◌≡◌, map, ◌+◌, ◌≤◌, length, drop, replicate};
 ghost use Rattle.soda.specs.Roles.{roles};
 ghost use Rattle.instance.specs.Instances.{noted};

@@ -1,5 +1,6 @@
 // Policies as readable text (document 02, E7): what a text is, and what reading and writing one answer. The calls stand in `parser` and `printer`.
 #![tactic(auto)]
+
 use policy::Code;
 
 // The bytes that a text begins with.

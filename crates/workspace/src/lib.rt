@@ -1,6 +1,7 @@
 // The workspace: for each set of taken actions, which terms of the policy it satisfies and which are possible.
 // A set of actions is a mask over their places. Its row packs both columns into one number (`rows`).
 #![tactic(auto)]
+
 ghost use Rattle.std.specs.Prelude.{◌≡◌, ◌≤◌, ltb, length, take};
 ghost use Rattle.soda.specs.Lists.{all};
 ghost use Rattle.workspace.specs.Workspace.{fill_of};
