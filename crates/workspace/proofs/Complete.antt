@@ -14,7 +14,7 @@ use Rattle.soda.specs.Bits.{bit}
 use Rattle.soda.proofs.Bools.{not_so, or_left, or_right, and-join}
 use Rattle.soda.proofs.Bits.{bit_of_zero}
 use Rattle.rows.specs.Rows.{place}
-use Rattle.rows.proofs.Digits.{bit-and, bit_or, bit_shr, bit_word}
+use Rattle.rows.proofs.Digits.{bit-and, bit-or, bit_shr, bit_word}
 use Rattle.workspace.specs.Private.{Ascending, Listing, no_words, skips, lists, Operators, by_sides, Finished}
 
 -- one word done: word i by its sides, the right one at k, and nothing else changes
@@ -46,10 +46,10 @@ module _ (either both row right i word : ℕ) (h : i < 31) (is : word ≡ 429496
           ∙ sym (bit-and (place e i) (bit_or either both) word) ∙ ap (bit (place e i)) z ∙ bit_of_zero (place e i))
 
       no_either : (e : Bool) → bit (place e i) either ≡ false
-      no_either e = not_so (bit (place e i) either) (λ o. none e (bit_or (place e i) either both ∙ or_left (bit (place e i) either) (bit (place e i) both) o))
+      no_either e = not_so (bit (place e i) either) (λ o. none e (bit-or (place e i) either both ∙ or_left (bit (place e i) either) (bit (place e i) both) o))
 
       no_both : (e : Bool) → bit (place e i) both ≡ false
-      no_both e = not_so (bit (place e i) both) (λ o. none e (bit_or (place e i) either both ∙ or_right (bit (place e i) either) (bit (place e i) both) o))
+      no_both e = not_so (bit (place e i) both) (λ o. none e (bit-or (place e i) either both ∙ or_right (bit (place e i) either) (bit (place e i) both) o))
 
   -- an operator
   module _ (k : ℕ) (l : i < k) where
@@ -62,10 +62,10 @@ module _ (either both row right i word : ℕ) (h : i < 31) (is : word ≡ 429496
 
     row-bit : (q x y : ℕ) (b : Bool) → 1 + q ≡ x → k - i + q ≡ y → bit q word ≡ b
         → bit q row_now ≡ (bit q row || (b && ((bit q either && (bit x row || bit y row)) || (bit q both && (bit x row && bit y row)))))
-    row-bit q x y b u v w = simp (bit_or, bit-and, bit_shr, u, v, w)
+    row-bit q x y b u v w = simp (bit-or, bit-and, bit_shr, u, v, w)
 
     right-bit : (q y : ℕ) (b : Bool) → k - i + q ≡ y → bit q word ≡ b → bit q right_now ≡ (bit q right || (bit y row && b))
-    right-bit q y b v w = simp (bit_or, bit-and, bit_shr, v, w)
+    right-bit q y b v w = simp (bit-or, bit-and, bit_shr, v, w)
 
     pub placed : Placed either both row right i k row_now right_now
     placed = record {

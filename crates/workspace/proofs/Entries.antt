@@ -24,7 +24,7 @@ use Rattle.soda.proofs.Splits.{any_append, all_append}
 use Rattle.shape.specs.Shapes.{right_sides}
 use Rattle.rows.specs.Rows.{place, turned_row, satisfied_in, possible_in}
 use Rattle.rows.specs.Notes.{note_of, met_in, twin_in, users_in}
-use Rattle.rows.proofs.Digits.{bit-and, bit_or, bit_shr, bit_power, bit_ext, bit_mask, bit-ones}
+use Rattle.rows.proofs.Digits.{bit-and, bit-or, bit_shr, bit_power, bit_ext, bit_mask, bit-ones}
 use Rattle.rows.proofs.Turning.{bit-turned, satisfied-turned, possible-turned}
 use Rattle.rows.proofs.Noting.{met_noted, twin-noted, users-noted}
 use Rattle.workspace.specs.Workspace.{select, judged, row_of}
@@ -272,7 +272,7 @@ module _ (m : Masks) (ops : List ℕ) (j : ℕ) (a : Action) (alike : ℕ) (T : 
 
             acting : Acting (select (top + t) l) (bit_or who user)
             acting v =
-                bit_or v who user
+                bit-or v who user
                 ∙ ap₂ ◌||◌ (ap (bit v) is-who ∙ (before t (omega arith)).sides.acting v) (ap (bit v) g.is_user ∙ bit_power v a.user ∙ eqb_swap v a.user ∙ sym (or-false (eqb a.user v)))
                 ∙ sym (ap (acts (λ x. x.user) v) chosen ∙ any_append (λ (x : Action). eqb x.user v) (select t l) (a ∷ []))
 

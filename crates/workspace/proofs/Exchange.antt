@@ -19,7 +19,7 @@ use Rattle.soda.proofs.Bools.{not_so, and_split, and-join, or_split, so_lt, so_e
 use Rattle.soda.proofs.Bits.{bit-suc, bit_of_zero, even, odd}
 use Rattle.soda.proofs.Orders.{order_plays_no_part, perm_last}
 use Rattle.rows.specs.Twins.{is_alike, spare_of, first_of, twin_of}
-use Rattle.rows.proofs.Digits.{bit-and, bit_or, bit_power}
+use Rattle.rows.proofs.Digits.{bit-and, bit-or, bit_power}
 use Rattle.workspace.specs.Workspace.{select, judged, row_of}
 use Rattle.workspace.specs.Private.{AlikePlaces, Twin, itself, other_set, other_action}
 use Rattle.soda.specs.declared.Action.{Action}
@@ -184,7 +184,7 @@ module _ (l : List Action) (j : ℕ) where
     find_take o = record {
       bound = omega arith;
       below = or_lt (k + 1) r (2 ^ k) (omega (arith, f.below, pow_mono {i = k} {j = k + 1} (omega arith))) (pow-lt (omega arith));
-      same = λ i b. ⊎_elim (old i) (new i) (or_split (bit i r) (bit i (2 ^ k)) (sym (bit_or i r (2 ^ k)) ∙ b));
+      same = λ i b. ⊎_elim (old i) (new i) (or_split (bit i r) (bit i (2 ^ k)) (sym (bit-or i r (2 ^ k)) ∙ b));
     }
       where
         old : (i : ℕ) → So (bit i r) → (i < k + 1) × (get_or l i (record { user = 0; met = 0 }) ≡ get_or l j (record { user = 0; met = 0 }))

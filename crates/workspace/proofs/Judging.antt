@@ -20,7 +20,7 @@ use Rattle.soda.proofs.Parts.{part_is-possible, satisfied-is-possible}
 use Rattle.shape.specs.Shapes.{is_plus, is_op, right_sides}
 use Rattle.rows.specs.Rows.{place, Packed, Chance, based}
 use Rattle.rows.specs.Notes.{users_in}
-use Rattle.rows.proofs.Digits.{bit_or, bit-ones, in_both}
+use Rattle.rows.proofs.Digits.{bit-or, bit-ones, in_both}
 use Rattle.workspace.specs.Workspace.{select, judged}
 use Rattle.workspace.specs.Private.{left_at, note_at, Part, Joined, matched_apart, jointly, by_sides, Finished, Suited, RowIs, SidesAt}
 use Rattle.soda.specs.declared.Action.{Action}
@@ -150,7 +150,7 @@ module _ {φ : Term} {l : List Action} {m : Masks} {ops sets : List ℕ} {s ones
     mark k r p = in_both e (marks k φ) r i (omega (arith, low)) p ∙ bit_standing k st.stands
 
     joint_bits : bit i (bit_or (marks (is_op together) φ) (marks (is_op apart) φ)) ≡ (is_op together ψ || is_op apart ψ)
-    joint_bits = bit_or i (marks (is_op together) φ) (marks (is_op apart) φ) ∙ ap₂ ◌||◌ (bit_standing (is_op together) st.stands) (bit_standing (is_op apart) st.stands)
+    joint_bits = bit-or i (marks (is_op together) φ) (marks (is_op apart) φ) ∙ ap₂ ◌||◌ (bit_standing (is_op together) st.stands) (bit_standing (is_op apart) st.stands)
 
     joint_mark : bit (place e i) m.joint ≡ (is_op together ψ || is_op apart ψ)
     joint_mark = in_both e (bit_or (marks (is_op together) φ) (marks (is_op apart) φ)) m.joint i (omega (arith, low)) F.suited.masked.joint ∙ joint_bits
@@ -160,7 +160,7 @@ module _ {φ : Term} {l : List Action} {m : Masks} {ops sets : List ℕ} {s ones
       where
         by : (b : Bool) → bit i (cond b (bit_or (marks (is_op either) φ) (bit_or (marks (is_op together) φ) (marks (is_op apart) φ))) (marks (is_op either) φ))
             ≡ (is_op either ψ || (b && (is_op together ψ || is_op apart ψ)))
-        by true = bit_or i (marks (is_op either) φ) (bit_or (marks (is_op together) φ) (marks (is_op apart) φ)) ∙ ap₂ ◌||◌ (bit_standing (is_op either) st.stands) joint_bits
+        by true = bit-or i (marks (is_op either) φ) (bit_or (marks (is_op together) φ) (marks (is_op apart) φ)) ∙ ap₂ ◌||◌ (bit_standing (is_op either) st.stands) joint_bits
         by false = bit_standing (is_op either) st.stands ∙ sym (or-false (is_op either ψ))
 
     rule : bit (place e i) row
@@ -307,7 +307,7 @@ module _ {φ : Term} {l : List Action} {m : Masks} {ops sets : List ℕ} {s ones
           let units = in_both e (marks unit φ) m.units i k masked.units ∙ bit-marks-past unit φ i h in
           let plus = in_both e (marks is_plus φ) m.plus i k masked.plus ∙ bit-marks-past is_plus φ i h in
           let joints = in_both e (bit_or (marks (is_op together) φ) (marks (is_op apart) φ)) m.joint i k masked.joint
-          ∙ bit_or i (marks (is_op together) φ) (marks (is_op apart) φ) ∙ ap₂ ◌||◌ (bit-marks-past (is_op together) φ i h) (bit-marks-past (is_op apart) φ i h) in
+          ∙ bit-or i (marks (is_op together) φ) (marks (is_op apart) φ) ∙ ap₂ ◌||◌ (bit-marks-past (is_op together) φ i h) (bit-marks-past (is_op apart) φ i h) in
           F.finished.past e i (omega (arith, h, rights-length 0 φ)) k ∙ F.is_base (place e i)
           ∙ (λ t. ((eqb ones 1 && (bit (place e i) met && units t)) || (bit (1 + place e i) met && plus t)) || unmarked e i k joints t)
           ∙ simp (and-false, or-false)

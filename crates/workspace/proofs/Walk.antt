@@ -15,7 +15,7 @@ use Rattle.soda.specs.Bits.{bit}
 use Rattle.soda.proofs.Bools.{and_split, and-join, or_split, or_left, or_right, Order, less, same, more, order, lt_or_le}
 use Rattle.soda.proofs.Bits.{bit_of_zero}
 use Rattle.rows.specs.Notes.{users_in}
-use Rattle.rows.proofs.Digits.{bit-and, bit_or}
+use Rattle.rows.proofs.Digits.{bit-and, bit-or}
 use Rattle.workspace.specs.Private.{left_at, right_at, note_at, Part, PartAt, Parted, Gathered, Joined, Next, matched, allowed, matched_apart}
 use Rattle.workspace.proofs.Submask.{Within, Lowest, lowest, within_le, and-within, rest-within, walk, within_more, within-less}
 
@@ -137,13 +137,13 @@ next_le n = omega (arith, n.is)
 pub gathered_twice : (f : ℕ → ℕ → Bool) (s x y a b a₁ b₁ a₂ b₂ : ℕ) → Gathered f s x a b a₁ b₁ → Gathered f s y a₁ b₁ a₂ b₂
     → (q : ℕ) → bit q (bit_or a₂ b₂) ≡ (bit q (bit_or a b) || ((f x q || f (s - x) q) || (f y q || f (s - y) q)))
 gathered_twice f s x y a b a₁ b₁ a₂ b₂ g h q =
-    bit_or q a₂ b₂ ∙ h q ∙ ap (λ c. c || (f y q || f (s - y) q)) (g q ∙ ap (λ c. c || (f x q || f (s - x) q)) (sym (bit_or q a b)))
+    bit-or q a₂ b₂ ∙ h q ∙ ap (λ c. c || (f y q || f (s - y) q)) (g q ∙ ap (λ c. c || (f x q || f (s - x) q)) (sym (bit-or q a b)))
     ∙ or_assoc (bit q (bit_or a b)) (f x q || f (s - x) q) (f y q || f (s - y) q)
 
 -- and from two parts
 pub parted_twice : (f : ℕ → ℕ → Bool) (s x y r p p' : ℕ) → Parted f s x p → Parted f s y p'
     → (q : ℕ) → bit q (bit_or r (bit_or p p')) ≡ (bit q r || ((f x q || f (s - x) q) || (f y q || f (s - y) q)))
-parted_twice f s x y r p p' e e' q = bit_or q r (bit_or p p') ∙ ap (λ c. bit q r || c) (bit_or q p p' ∙ ap₂ ◌||◌ (e q) (e' q))
+parted_twice f s x y r p p' e e' q = bit-or q r (bit_or p p') ∙ ap (λ c. bit q r || c) (bit-or q p p' ∙ ap₂ ◌||◌ (e q) (e' q))
 
 -- ── a part and its rest ──
 -- the users of the set x
@@ -167,7 +167,7 @@ module _ (sets : List ℕ) (whole a s x : ℕ) (at : PartAt whole a s x) (h : a 
       → Gathered (matched sets s) s x one two (bit_or one (bit_and (get_or sets a 0) (get_or sets (whole - a + 1) 0))) (bit_or two (bit_and (get_or sets (whole - a) 0) (get_or sets (a + 1) 0)))
   found_digits one two q =
       rw (rest, at.is_part, back)
-      (ap₂ ◌||◌ (bit_or q one _ ∙ ap (λ b. bit q one || b) (bit-and q _ _)) (bit_or q two _ ∙ ap (λ b. bit q two || b) (bit-and q _ _))
+      (ap₂ ◌||◌ (bit-or q one _ ∙ ap (λ b. bit q one || b) (bit-and q _ _)) (bit-or q two _ ∙ ap (λ b. bit q two || b) (bit-and q _ _))
       ∙ regroup (bit q one) (bit q two) (bit q (left_at sets x) && bit q (right_at sets (s - x))) (bit q (left_at sets (s - x)) && bit q (right_at sets x)))
 
   -- where users are compared
@@ -192,7 +192,7 @@ module _ (sets : List ℕ) (whole a s x : ℕ) (at : PartAt whole a s x) (h : a 
 -- what is gathered from nothing is the part's own
 pub from_nothing : (f : ℕ → ℕ → Bool) (s x one two : ℕ) → Gathered f s x 0 0 one two → Parted f s x (bit_or one two)
 from_nothing f s x one two g q =
-    bit_or q one two ∙ g q ∙ ap₂ (λ a b. (a || b) || (f x q || f (s - x) q)) (bit_of_zero q) (bit_of_zero q)
+    bit-or q one two ∙ g q ∙ ap₂ (λ a b. (a || b) || (f x q || f (s - x) q)) (bit_of_zero q) (bit_of_zero q)
 
 -- ── what is asked for at the words of a mask only ──
 module _ (f : ℕ → ℕ → Bool) (s w : ℕ) where

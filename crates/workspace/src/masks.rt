@@ -6,7 +6,7 @@ use rows::packed;
 use shape::Shape;
 
 // The words that go by each row of the table, in both columns; first is the row of the empty set.
-#[derive(Drop)]
+#[derive(Clone, Copy)]
 pub(crate) struct Masks {
     pub first: u64,
     pub units: u64,
