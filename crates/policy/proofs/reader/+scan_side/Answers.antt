@@ -1,9 +1,9 @@
 -- By the first word's sides, a law of `Scanning` says what the answer is.
-use Rattle.std.proofs.Common.{◌≡◌, ℕ, ◌+◌, ◌≤◌, sym, ap, ◌∙◌, arith, length, List}
+use Rattle.std.proofs.Common.{◌+◌, sym, ap, ◌∙◌, arith}
 use Rattle.soda.specs.Lists.{from}
 use Rattle.soda.proofs.Lists.{from-length}
 use Rattle.policy.specs.declared.reader.First.{First}
-use Rattle.policy.proofs.Scanning.{Word, known_from, word-sided, first-within, scan_missing, scan_one, scan_missing_second, scan_two}
+use Rattle.policy.proofs.Scanning.{known_from, word-sided, first-within, scan_missing, scan_one, scan_missing_second, scan_two}
 use Rattle.policy.proofs.reader.+scan_side.Goals as goal
 
 pub scan-returns-then-a-eq0 : goal.scan-returns-then-a-eq0

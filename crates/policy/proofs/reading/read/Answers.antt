@@ -3,7 +3,7 @@ use Rattle.std.proofs.Common.{◌≡◌, ℕ, ◌≤◌, cond, ◌&&◌, eqb, Li
 use mathlib.Core.Bool.{So}
 use mathlib.Core.Option.{Option, some, none}
 use borrow.Author.Tests.{not-true, not-false}
-use Rattle.soda.specs.Lists.{all, first_failing}
+use Rattle.soda.specs.Lists.{first_failing}
 use Rattle.soda.specs.Terms.{Term, unit, well_formed, subterms, marks}
 use Rattle.soda.proofs.Lists.{failing_most, none_fails}
 use Rattle.soda.proofs.Terms.{subterms-length}
@@ -17,7 +17,7 @@ use Rattle.policy.specs.declared.reader.First.{First}
 use Rattle.policy.specs.declared.Code.TheVariants.{Fault}
 use Rattle.policy.specs.declared.PolicyRead.TheVariants.{Accepted, Refused}
 use Rattle.policy.proofs.Layouts.{layout-known}
-use Rattle.policy.proofs.Scanning.{length-range, counts_most, whole}
+use Rattle.policy.proofs.Scanning.{length-range, whole}
 use Rattle.policy.proofs.Accepted.{is_miscounted, is-long as is-too-long, is-bad, is_none, is_ill, is_formed_lem}
 use Rattle.policy.proofs.Faults.{behind-is, left-over_most, over_is, length_decoded}
 use Rattle.policy.proofs.reading.read.Goals as goal
