@@ -14,7 +14,7 @@ use policy::Code;
 
 // A monitor (document 01: sheet). It has no padding: each of its bytes is a field's.
 #[repr(C)]
-#[derive(Drop)]
+#[derive(Clone, Copy)]
 pub struct Monitor {
     pub configuration: Configuration,
     pub instance: Instance,
@@ -37,7 +37,7 @@ pub struct Answer {
 
 // An event's word, read: a user executes an action with a number, is granted a role or has one revoked, or the instance is closed. A
 // word that is out of layout or names a user or role that is not declared is malformed.
-#[derive(Drop)]
+#[derive(Clone, Copy)]
 pub enum Event {
     Acts(u8, u8),
     Grants(u8, u8),
