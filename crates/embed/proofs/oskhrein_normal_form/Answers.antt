@@ -1,0 +1,18 @@
+-- The number and the place of the normal form's answer.
+use Rattle.std.proofs.Common.{length, ap, ◌∙◌}
+use Rattle.policy.specs.Faults.{code_number}
+use Rattle.policy.specs.declared.Code.{Code}
+use Rattle.policy.proofs.Places.{code_has_number}
+use Rattle.normal.specs.NormalForms.{normal_code}
+use Rattle.embed.specs.Lent.{place_left}
+use Rattle.embed.proofs.oskhrein_normal_form.Goals as goal
+
+pub returns : goal.returns
+returns c =
+    let a = c.args in
+    let l = c.lend.ensures in
+    let e = c.normal_form-code.ensures in (
+      l.0 ∙ ap code_number e.value ∙ code_has_number a.users a.roles a.words.now (normal_code a.users a.roles a.words.now (length a.out.now)),
+      l.1 ∙ ap (λ (x : Code). place_left x a.place.now) e.value,
+      e.out_after,
+    )
