@@ -3,7 +3,6 @@
 
 ghost use Rattle.std.specs.Prelude.{◌≡◌, map, ◌+◌, ◌≤◌, length, drop, replicate};
 ghost use Rattle.soda.specs.Roles.{roles};
-ghost use Rattle.policy.specs.Faults.{code_number};
 ghost use Rattle.instance.specs.Instances.{noted};
 ghost use Rattle.monitor.specs.Monitors.{bare, opening};
 ghost use Rattle.multiset.specs.MultisetTest.{verdict_code, verdict_letter, total, listed, test_of, test_workspace};
@@ -101,16 +100,6 @@ fn open_bare(users: u8, roles: u8, words: &[u32], rows: &[u16]) -> Code
     Monitor::open(users, roles, words, rows, &permissions[..0], &workflow[..0]).code
 }
 
-// The number of a code that is only read.
-fn number_in(code: &Code) -> u8
-    ensures { result ≡ code_number code.now }
-{
-    match *code {
-        Code::Fault { number, place: _ } => number,
-        Code::Plain(number) => number,
-    }
-}
-
 // Whether the multiset of users, each as often as its count says, satisfies the policy. The workspace speaks of its actions.
 pub fn satisfies(
     users: u8,
@@ -126,7 +115,7 @@ pub fn satisfies(
         return Verdict::Refused(Code::Plain(codes::WORKSPACE));
     }
     let code = open_bare(users, roles, words, rows);
-    if number_in(&code) != codes::ACCEPTED {
+    if policy::number_of(code) != codes::ACCEPTED {
         return Verdict::Refused(code);
     }
     if total_from(counts, users as usize) != 0 {

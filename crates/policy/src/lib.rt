@@ -12,7 +12,7 @@ pub use words::{in_layout, kind_of, length_ok, operand_of, put, sides_of};
 
 // The code of a call that reads a policy (document 02: point at the bad word): the number of a policy's fault, 1 to 4, with the fault's
 // place among the words, counted from 0; or another number, which has no place.
-#[derive(Drop)]
+#[derive(Clone, Copy)]
 pub enum Code {
     Fault { number: u8, place: u8 },
     Plain(u8),

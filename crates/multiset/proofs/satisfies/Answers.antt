@@ -40,13 +40,13 @@ returns-then-workspace-lt8192 c =
     let o = bare a.users a.roles a.words.now a.rows.now in
     refused_plain o a.counts a.workspace.now WORKSPACE (omega arith) (rw (lt-ltb (length a.workspace.now) 8192 c.if-workspace-lt8192.true))
 
-pub returns-then-number_in-ne-ACCEPTED : goal.returns-then-number_in-ne-ACCEPTED
-returns-then-number_in-ne-ACCEPTED c =
+pub returns-then-number_of-ne-ACCEPTED : goal.returns-then-number_of-ne-ACCEPTED
+returns-then-number_of-ne-ACCEPTED c =
     let a = c.args in
     let o = bare a.users a.roles a.words.now a.rows.now in
     let x = c.open_bare-code in
-    let number = opened_number o x.result c.number_in.result x.ensures c.number_in.ensures in
-    let ne : open_code o ≢ 0 = λ z. c.if-number_in-ne-ACCEPTED.true (number ∙ z) in
+    let number = opened_number o x.result c.number_of.result x.ensures c.number_of.ensures in
+    let ne : open_code o ≢ 0 = λ z. c.if-number_of-ne-ACCEPTED.true (number ∙ z) in
     refused_test o a.counts a.workspace.now x.result (open_code o) ne x.ensures
     (code_opening o a.counts a.workspace.now (le-ltb (length a.workspace.now) 8192 (omega (arith, c.if-workspace-lt8192.false))) ne)
 
@@ -55,8 +55,8 @@ returns-then-total_from-ne0 c =
     let a = c.args in
     let o = bare a.users a.roles a.words.now a.rows.now in
     let x = c.open_bare-code in
-    let number = opened_number o x.result c.number_in.result x.ensures c.number_in.ensures in
-    let accepted : open_code o ≡ 0 = sym number ∙ c.if-number_in-ne-ACCEPTED.false in
+    let number = opened_number o x.result c.number_of.result x.ensures c.number_of.ensures in
+    let accepted : open_code o ≡ 0 = sym number ∙ c.if-number_of-ne-ACCEPTED.false in
     let rest : List ℕ = drop a.users a.counts in
     let undeclared : all is_zero rest ≡ false = total-zero rest ∙ ne_eqb (total rest) 0 (λ z. c.if-total_from-ne0.true (c.total_from.ensures ∙ z)) in
     refused_plain o a.counts a.workspace.now MALFORMED (omega arith)
@@ -67,8 +67,8 @@ returns-then-total_from-gt12 c =
     let a = c.args in
     let o = bare a.users a.roles a.words.now a.rows.now in
     let x = c.open_bare-code in
-    let number = opened_number o x.result c.number_in.result x.ensures c.number_in.ensures in
-    let accepted : open_code o ≡ 0 = sym number ∙ c.if-number_in-ne-ACCEPTED.false in
+    let number = opened_number o x.result c.number_of.result x.ensures c.number_of.ensures in
+    let accepted : open_code o ≡ 0 = sym number ∙ c.if-number_of-ne-ACCEPTED.false in
     let declared = all_declared o a.counts c.total_from.result c.total_from.ensures c.if-total_from-ne0.false in
     refused_plain o a.counts a.workspace.now FULL (omega arith)
     (code_own o a.counts a.workspace.now (le-ltb (length a.workspace.now) 8192 (omega (arith, c.if-workspace-lt8192.false))) accepted
@@ -79,8 +79,8 @@ actions_of-actions-requires c =
     let a = c.args in
     let o = bare a.users a.roles a.words.now a.rows.now in
     let x = c.open_bare-code in
-    let number = opened_number o x.result c.number_in.result x.ensures c.number_in.ensures in
-    let accepted : open_code o ≡ 0 = sym number ∙ c.if-number_in-ne-ACCEPTED.false in
+    let number = opened_number o x.result c.number_of.result x.ensures c.number_of.ensures in
+    let accepted : open_code o ≡ 0 = sym number ∙ c.if-number_of-ne-ACCEPTED.false in
     counted o a.counts accepted (omega (arith, c.if-total_from-gt12.false, c.total_from-2.ensures)) (sym c.total_from.ensures ∙ c.if-total_from-ne0.false)
 
 pub evaluate-requires : goal.evaluate-requires
@@ -88,8 +88,8 @@ evaluate-requires c =
     let a = c.args in
     let o = bare a.users a.roles a.words.now a.rows.now in
     let x = c.open_bare-code in
-    let number = opened_number o x.result c.number_in.result x.ensures c.number_in.ensures in
-    let accepted : open_code o ≡ 0 = sym number ∙ c.if-number_in-ne-ACCEPTED.false in
+    let number = opened_number o x.result c.number_of.result x.ensures c.number_of.ensures in
+    let accepted : open_code o ≡ 0 = sym number ∙ c.if-number_of-ne-ACCEPTED.false in
     let made = c.actions_of-actions in
     fillable o a.counts accepted (omega (arith, c.if-total_from-gt12.false, c.total_from-2.ensures)) made.result made.ensures
     a.workspace.now (omega arith) (omega (arith, c.if-workspace-lt8192.false))
@@ -109,8 +109,8 @@ returns-then-evaluate c =
     let before : List ℕ = a.workspace.now in
     let after : List ℕ = c.evaluate.new.workspace in
     let x = c.open_bare-code in
-    let number = opened_number o x.result c.number_in.result x.ensures c.number_in.ensures in
-    let accepted : open_code o ≡ 0 = sym number ∙ c.if-number_in-ne-ACCEPTED.false in
+    let number = opened_number o x.result c.number_of.result x.ensures c.number_of.ensures in
+    let accepted : open_code o ≡ 0 = sym number ∙ c.if-number_of-ne-ACCEPTED.false in
     let declared = all_declared o a.counts c.total_from.result c.total_from.ensures c.if-total_from-ne0.false in
     let long = le-ltb (length before) 8192 (omega (arith, c.if-workspace-lt8192.false)) in
     let few : total a.counts ≤ 12 = omega (arith, c.if-total_from-gt12.false, c.total_from-2.ensures) in
@@ -126,8 +126,8 @@ returns c =
     let before : List ℕ = a.workspace.now in
     let after : List ℕ = c.evaluate.new.workspace in
     let x = c.open_bare-code in
-    let number = opened_number o x.result c.number_in.result x.ensures c.number_in.ensures in
-    let accepted : open_code o ≡ 0 = sym number ∙ c.if-number_in-ne-ACCEPTED.false in
+    let number = opened_number o x.result c.number_of.result x.ensures c.number_of.ensures in
+    let accepted : open_code o ≡ 0 = sym number ∙ c.if-number_of-ne-ACCEPTED.false in
     let declared = all_declared o a.counts c.total_from.result c.total_from.ensures c.if-total_from-ne0.false in
     let long = le-ltb (length before) 8192 (omega (arith, c.if-workspace-lt8192.false)) in
     let few : total a.counts ≤ 12 = omega (arith, c.if-total_from-gt12.false, c.total_from-2.ensures) in

@@ -1,5 +1,5 @@
 -- The loop lays out what each user meets, one more at each turn.
-use Rattle.std.proofs.Common.{◌≡◌, length, ◌∙◌, arith}
+use Rattle.std.proofs.Common.{length, ◌∙◌, arith}
 use borrow.Author.Tests.{le-leb, lt-leb}
 use Rattle.soda.proofs.Lists.{copied_all}
 use Rattle.units.specs.Units.{met_each}

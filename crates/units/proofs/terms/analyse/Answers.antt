@@ -1,7 +1,7 @@
 -- What the stack is of the words read so far says what is found of all.
 use Rattle.std.proofs.Common.{◌≡◌, ◌-◌, sym, ap, arith}
 use Rattle.units.specs.Private.{analysis_in}
-use Rattle.units.proofs.Stacks.{Read, begin, stops, goes_on, more, one}
+use Rattle.units.proofs.Stacks.{begin, stops, goes_on, more, one}
 use Rattle.units.proofs.terms.analyse.Goals as goal
 
 pub loop-i-init : goal.loop-i-init
