@@ -24,16 +24,6 @@ pub enum Printed {
     TooShort,
 }
 
-// The same code.
-fn copied(code: &Code) -> Code
-    ensures { result ≡ code.now }
-{
-    match *code {
-        Code::Fault { number, place } => Code::Fault { number, place },
-        Code::Plain(number) => Code::Plain(number),
-    }
-}
-
 // Runs a case: the text that the judge prints stands at the start of the output.
 pub fn print_case(bytes: &[u8], out: &mut [u8]) -> Printed
     ensures { (result ≡ printed bytes.now (length out.old)) × (out.new ≡ output bytes.now out.old) }
@@ -46,7 +36,7 @@ pub fn print_case(bytes: &[u8], out: &mut [u8]) -> Printed
     }
     let opened = open_case(bytes);
     let code = opened.code;
-    if policy::number_of(copied(&code)) != codes::ACCEPTED {
+    if policy::number_of(code) != codes::ACCEPTED {
         return Printed::Written(put_refused(out, 0, code));
     }
     let monitor = opened.monitor;

@@ -76,7 +76,7 @@ returns-then-number_of-ne-ACCEPTED c =
     let b : List ℕ = c.args.bytes.now in
     let o = c.open_case-opened in
     let well : case_ok b ≡ true = sym c.case_ok.ensures ∙ c.if-not-case_ok.false in
-    let numbered : c.number_of.result ≡ number b = c.number_of.ensures ∙ ap code_number c.copied.ensures ∙ number_is b o.result o.ensures in
+    let numbered : c.number_of.result ≡ number b = c.number_of.ensures ∙ number_is b o.result o.ensures in
     let refused : number b ≡ 0 → ⊥ = λ (z : number b ≡ 0). c.if-number_of-ne-ACCEPTED.true (numbered ∙ z) in
     answered b c.args.out.now (omega arith) (refused-text b well refused ∙ ap refused_text (sym (code_is b o.result o.ensures)))
     c.put_refused-then-number_of-ne-ACCEPTED.ensures
@@ -87,7 +87,7 @@ run-requires c =
     let b : List ℕ = c.args.bytes.now in
     let o = c.open_case-opened in
     let well : case_ok b ≡ true = sym c.case_ok.ensures ∙ c.if-not-case_ok.false in
-    let accepted : number b ≡ 0 = sym (c.number_of.ensures ∙ ap code_number c.copied.ensures ∙ number_is b o.result o.ensures) ∙ c.if-number_of-ne-ACCEPTED.false in
+    let accepted : number b ≡ 0 = sym (c.number_of.ensures ∙ number_is b o.result o.ensures) ∙ c.if-number_of-ne-ACCEPTED.false in
     let new = fresh-is b o.result o.ensures accepted in
     record {
       is_formed = subst (λ (i : Monitor). So (well_formed i)) (sym new) (opened-is_well_formed (opening_of b) accepted);
@@ -101,7 +101,7 @@ returns c =
     let b : List ℕ = c.args.bytes.now in
     let o = c.open_case-opened in
     let well : case_ok b ≡ true = sym c.case_ok.ensures ∙ c.if-not-case_ok.false in
-    let accepted : number b ≡ 0 = sym (c.number_of.ensures ∙ ap code_number c.copied.ensures ∙ number_is b o.result o.ensures) ∙ c.if-number_of-ne-ACCEPTED.false in
+    let accepted : number b ≡ 0 = sym (c.number_of.ensures ∙ number_is b o.result o.ensures) ∙ c.if-number_of-ne-ACCEPTED.false in
     let text : case_text b ≡ run_text o.result.monitor (event_words b) =
     opened-text b well accepted ∙ ap (λ (i : Monitor). run_text i (event_words b)) (sym (left_is b o.result o.ensures)) in
     answered b c.args.out.now (omega arith) text c.run.ensures
