@@ -18,7 +18,7 @@ use texts::put_refused;
 pub const LIMIT: usize = 2313;
 
 // How many bytes of text were written, or that the output cannot hold the longest text.
-#[derive(Drop)]
+#[derive(Clone, Copy)]
 pub enum Printed {
     Written(usize),
     TooShort,

@@ -10,7 +10,7 @@ use super::texts::{put_line, put_taken};
 use monitor::{Monitor, Status};
 
 // What an event leaves: the monitor, and the place behind its line.
-#[derive(Drop)]
+#[derive(Clone, Copy)]
 struct Left {
     monitor: Monitor,
     at: usize,

@@ -112,7 +112,7 @@ pub extern "C" fn oskhrein_status(monitor: &Monitor) -> u8
 }
 
 // An answer about users: the number, and the lent users as they are to be left.
-#[derive(Drop)]
+#[derive(Clone, Copy)]
 struct UsersAnswer {
     code: u8,
     users: u16,

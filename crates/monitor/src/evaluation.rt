@@ -4,7 +4,7 @@ ghost use Rattle.monitor.specs.Private.{Fillable, Evaluated};
 use instance::Instance;
 
 // Whether the taken actions satisfy the policy, and whether they are possible.
-#[derive(Drop)]
+#[derive(Clone, Copy)]
 pub(crate) struct Evaluation {
     pub satisfied: bool,
     pub possible: bool,

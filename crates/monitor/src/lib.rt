@@ -21,7 +21,7 @@ pub struct Monitor {
 }
 
 // What an opening answers: its code, and the monitor that it leaves. The code stands last, as in `Configured`.
-#[derive(Drop)]
+#[derive(Clone, Copy)]
 pub struct Opened {
     pub monitor: Monitor,
     pub code: Code,
@@ -29,7 +29,7 @@ pub struct Opened {
 
 // What an event answers: its number, and the monitor that it leaves. The number stands last, as in `Configured`.
 #[repr(C)]
-#[derive(Drop)]
+#[derive(Clone, Copy)]
 pub struct Answer {
     pub monitor: Monitor,
     pub code: u8,
@@ -47,7 +47,7 @@ pub enum Event {
 }
 
 // A status (document 01: standing): d, c or o, or a refusal's number.
-#[derive(Drop)]
+#[derive(Clone, Copy)]
 pub enum Status {
     Closed,
     Complete,
@@ -56,7 +56,7 @@ pub enum Status {
 }
 
 // Who may act (document 02: light up who may act): a set of users, bit u for user u, or a refusal's number.
-#[derive(Drop)]
+#[derive(Clone, Copy)]
 pub enum Enabled {
     Users(u16),
     Refused(u8),

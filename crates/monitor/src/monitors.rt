@@ -9,7 +9,7 @@ use instance::{Check, Instance};
 use policy::{Code, PolicyRead, codes};
 
 // What a call on a monitor asks first: 12, if it needs a workspace, 15 or 0 and, if it is 0, the unit terms that a user meets.
-#[derive(Drop)]
+#[derive(Clone, Copy)]
 pub(crate) struct Admission {
     pub code: u8,
     pub met: u32,

@@ -43,7 +43,7 @@ fn actor_of(event: Event) -> u8
 }
 
 // An instance with one more action and its status anew, and whether its actions are possible.
-#[derive(Drop)]
+#[derive(Clone, Copy)]
 struct Tried {
     instance: Instance,
     possible: bool,
@@ -70,7 +70,7 @@ fn try_action(
 }
 
 // An event's number, and the instance that it leaves.
-#[derive(Drop)]
+#[derive(Clone, Copy)]
 struct Moved {
     instance: Instance,
     code: u8,

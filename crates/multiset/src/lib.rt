@@ -13,7 +13,7 @@ use policy::{Code, codes};
 use soda::Action;
 
 // What the multiset test answers.
-#[derive(Drop)]
+#[derive(Clone, Copy)]
 pub enum Verdict {
     Yes,
     No,

@@ -4,7 +4,7 @@ ghost use Rattle.text.specs.Grammar.{numeral_in};
 ghost use Rattle.parser.specs.Private.{digit_at, NumberRead};
 
 // The number that a text begins with: how many bytes it has, 0 if there is none, and its value.
-#[derive(Drop)]
+#[derive(Clone, Copy)]
 pub(crate) struct Number {
     pub bytes: usize,
     pub value: u8,

@@ -7,7 +7,7 @@ use super::numerals::read_numeral;
 use super::sets::read_set;
 
 // What a text begins with: how many bytes it has, 0 if the text does not begin so, and its policy word.
-#[derive(Drop)]
+#[derive(Clone, Copy)]
 pub(crate) struct Token {
     pub bytes: usize,
     pub word: u32,

@@ -19,7 +19,7 @@ pub enum Code {
 }
 
 // A policy read (document 01): its word count and the mask of the words that begin unit terms, or a code.
-#[derive(Drop)]
+#[derive(Clone, Copy)]
 pub enum PolicyRead {
     Accepted { words: usize, units: u32 },
     Refused(Code),

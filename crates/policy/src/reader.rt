@@ -9,7 +9,7 @@ use super::words::{kind_of, put, sides_of};
 
 // What is read of the first term of some words: how many words it has, 0 if they begin with none; whether it is a unit term, and well
 // formed; and those of its words that begin unit terms.
-#[derive(Drop)]
+#[derive(Clone, Copy)]
 pub(crate) struct First {
     pub words: usize,
     pub unit: bool,

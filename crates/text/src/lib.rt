@@ -7,14 +7,14 @@ use policy::Code;
 pub const OPENING: [u8; 8] = *b"policy: ";
 
 // What a conversion answers: how many words or bytes it wrote, or a code.
-#[derive(Drop)]
+#[derive(Clone, Copy)]
 pub enum Converted {
     Written(usize),
     Refused(Code),
 }
 
 // How many bytes a term's text has, and how many words the term.
-#[derive(Drop)]
+#[derive(Clone, Copy)]
 pub struct Span {
     pub bytes: usize,
     pub words: usize,

@@ -11,7 +11,7 @@ use terms::analyse;
 
 // What a call on a monitor asks of its policy: whether it is accepted, and then the words that begin unit terms and those of them that
 // a user meets; zero if it is refused.
-#[derive(Drop)]
+#[derive(Clone, Copy)]
 pub struct Survey {
     pub accepted: bool,
     pub units: u32,

@@ -19,7 +19,7 @@ struct Stack {
 }
 
 // What is found of the one term that words are: nothing if they are none.
-#[derive(Drop)]
+#[derive(Clone, Copy)]
 pub(crate) struct Analysis {
     pub formed: bool,
     pub units: u32,

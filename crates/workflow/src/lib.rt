@@ -26,7 +26,7 @@ pub struct Workflow {
 
 // What an opening is given besides: for each role the set of the actions that it gives, bit a for action a, and the workflow. Where neither
 // is given, and where they are refused, all zero.
-#[derive(Drop)]
+#[derive(Clone, Copy)]
 pub struct SecureWorkflow {
     pub workflow: Workflow,
     pub permissions: [u64; 16],

@@ -5,7 +5,7 @@ ghost use Rattle.workspace.specs.Private.{PartAt, Parted, Gathered, Joined, Next
 use rows::{counted, users_in};
 
 // What parts of a set have at left sides while their rests have it at right sides, and the other way round.
-#[derive(Drop)]
+#[derive(Clone, Copy)]
 struct Found {
     ahead: u64,
     back: u64,

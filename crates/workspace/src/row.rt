@@ -7,7 +7,7 @@ use super::parts::joints;
 use rows::{base_of, chance, packed};
 
 // A row, and at each operator's word the bit of its right side.
-#[derive(Drop)]
+#[derive(Clone, Copy)]
 pub(crate) struct Row {
     pub bits: u64,
     pub right: u64,

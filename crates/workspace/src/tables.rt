@@ -12,7 +12,7 @@ use rows::{met_in, note_of, possible_in, satisfied_in, turned, twin_in, twin_of,
 use soda::Action;
 
 // What the table keeps of a row.
-#[derive(Drop)]
+#[derive(Clone, Copy)]
 struct Stored {
     left: u64,
     right: u64,
