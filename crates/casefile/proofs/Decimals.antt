@@ -7,8 +7,7 @@ use native.Mathlib.Omega.{arith}
 use borrow.Author.Tests.{lt-ltb, le-ltb}
 use lib.Dec.{ltb}
 use lib.ListN.{length, length-append}
-use Rattle.policy.specs.declared.Code.{Code}
-use Rattle.policy.specs.declared.Code.TheVariants.{Fault, Plain}
+use Rattle.policy.specs.Codes.{Code, Fault, Plain}
 use Rattle.casefile.specs.Texts.{digit, decimal, refused_number, refused_text, taken_text, line_text}
 
 pub one-digit : (n : ℕ) → n < 10 → decimal n ≡ digit n ∷ []

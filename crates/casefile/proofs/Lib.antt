@@ -1,6 +1,7 @@
 pub mod Examples
 -- Bytes: a case's layout, the numbers in it, and the text put into an output.
 pub mod Laying
+pub mod Placing
 pub mod Decoding
 pub mod Decimals
 pub mod Writing

@@ -1,17 +1,20 @@
--- The numbers of events are below 18.
+-- The numbers of events are below 18, and those of refusals above 0.
 use mathlib.Core.Path.{refl}
 use mathlib.Core.Bool.{Bool, true, false, So, cond}
 use mathlib.Core.List.{List, [], ◌∷◌}
-use Prim.Native.Nat.{ℕ, ◌<◌}
+use Prim.Native.Nat.{ℕ, ◌<◌, ◌≤◌}
+use native.Mathlib.Omega.{arith}
 use lib.Dec.{ltb, lit<}
 use Rattle.soda.specs.Lists.{all}
 use Rattle.soda.proofs.Bools.{and_split, so_lt}
 use Rattle.policy.specs.Refusals.{code}
+use Rattle.policy.specs.Faults.{code_number}
+use Rattle.policy.specs.Answers.{code_of}
+use Rattle.policy.specs.declared.refusal.Refusal.{Refusal}
+use Rattle.policy.specs.declared.refusal.Refusal.TheVariants as refusal
 use Rattle.monitor.specs.declared.Monitor.{Monitor}
-use Rattle.monitor.specs.declared.Event.{Event}
-use Rattle.monitor.specs.declared.Event.TheVariants.{Acts, Grants, Revokes, Closes, Malformed}
 use Rattle.monitor.specs.Monitors.{admission}
-use Rattle.monitor.specs.Events.{event_refusals}
+use Rattle.monitor.specs.Events.{Event, Acts, Grants, Revokes, Closes, Malformed, event_refusals}
 
 -- one of the numbers of the list, or 0
 code_below : (n : ℕ) (l : List (Bool × ℕ)) → 0 < n → So (all (λ r. ltb r.1 n) l) → code l < n
@@ -31,3 +34,25 @@ event-below m (Grants u r) short = code_below 18 (event_refusals m (Grants u r) 
 event-below m (Revokes u r) short = code_below 18 (event_refusals m (Revokes u r) short) (lit< tt) refl
 event-below m Closes short = code_below 18 (event_refusals m Closes short) (lit< tt) refl
 event-below m Malformed short = code_below 18 (event_refusals m Malformed short) (lit< tt) refl
+
+pub above-none : (r : Refusal) → 1 ≤ code_number (code_of r)
+above-none refusal.WordCount = omega arith
+above-none (refusal.Word p) = omega arith
+above-none (refusal.Term p) = omega arith
+above-none (refusal.Unit p) = omega arith
+above-none refusal.Opening = omega arith
+above-none refusal.Text = omega arith
+above-none refusal.Counts = omega arith
+above-none refusal.Rows = omega arith
+above-none refusal.Workflow = omega arith
+above-none refusal.Malformed = omega arith
+above-none refusal.Full = omega arith
+above-none refusal.NotPossible = omega arith
+above-none refusal.Closed = omega arith
+above-none refusal.NotSatisfied = omega arith
+above-none refusal.NotAuthorized = omega arith
+above-none refusal.NoTransition = omega arith
+above-none refusal.Workspace = omega arith
+above-none refusal.Output = omega arith
+above-none refusal.Case = omega arith
+above-none refusal.Monitor = omega arith

@@ -8,10 +8,8 @@ use lib.Dec.{eqb}
 use lib.ListN.{length}
 use borrow.Author.Tests.{le-ltb}
 use Rattle.monitor.specs.declared.Monitor.{Monitor}
-use Rattle.monitor.specs.declared.Event.{Event}
-use Rattle.monitor.specs.declared.Event.TheVariants.{Acts, Grants, Revokes, Closes, Malformed}
 use Rattle.monitor.specs.Monitors.{open_code, fresh, opened}
-use Rattle.monitor.specs.Events.{event_in, applied, event_code, event_monitor}
+use Rattle.monitor.specs.Events.{Event, Acts, Grants, Revokes, Closes, Malformed, event_in, applied, event_code, event_monitor}
 use Rattle.monitor.specs.Runs.{Lengths, from, run, final, is_action, taken}
 use Rattle.monitor.proofs.Opening.{opened-is-fresh}
 use Rattle.casefile.specs.Cases.{case_ok, opening_of, event_words}

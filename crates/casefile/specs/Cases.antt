@@ -52,7 +52,7 @@ unfoldable pub case_ok : List ℕ → Bool
 case_ok b = leb 12 (length b) && (leb (length b) 4096 && (pairs_ok b && (parts_ok b && lengths_ok b)))
 
 -- n numbers from place k on, each a width behind the last
-abbrev pub numbers : (ℕ → ℕ) → ℕ → ℕ → ℕ → List ℕ
+abbrev pub numbers : {A : Type 0} → (ℕ → A) → ℕ → ℕ → ℕ → List A
 numbers at width k zero = []
 numbers at width k (suc n) = at k ∷ numbers at width (k + width) n
 

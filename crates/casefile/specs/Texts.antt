@@ -1,14 +1,10 @@
 -- The text that the judge prints (document 01, "Case file and program"), as bytes.
-use Rattle.std.specs.Prelude.{not, cond, List, [], ◌∷◌, ◌++◌, ℕ, suc, ◌+◌, ◌/◌, ◌%◌, ltb, eqb, length, drop}
-use Rattle.policy.specs.Codes.{CASE}
-use Rattle.policy.specs.declared.Code.{Code}
-use Rattle.policy.specs.declared.Code.TheVariants.{Fault, Plain}
+use Rattle.std.specs.Prelude.{not, cond, List, [], ◌∷◌, ◌++◌, ℕ, suc, ◌+◌, ◌/◌, ◌%◌, ltb, eqb, length, drop, Option, Some, None}
+use Rattle.policy.specs.Codes.{CASE, Code, Fault, Plain}
 use Rattle.monitor.specs.declared.Monitor.{Monitor}
 use Rattle.monitor.specs.Monitors.{open_code, opened, opening}
 use Rattle.monitor.specs.Runs.{Step, run, taken}
 use Rattle.casefile.specs.Cases.{case_ok, opening_of, event_words}
-use Rattle.casefile.specs.declared.Printed.{Printed}
-use Rattle.casefile.specs.declared.Printed.TheVariants.{Written, TooShort}
 
 -- a number below 1,000 in decimal
 abbrev pub digit : ℕ → ℕ
@@ -57,6 +53,16 @@ case_text b =
 -- The output must hold the longest text: 256 lines of at most 9 bytes, and one more. A shorter one is left as it was.
 abbrev pub limit : ℕ
 limit = 2313
+
+-- how many bytes of text were written, or that the output cannot hold the longest text
+pub data Printed : Type 0 where
+  Written : ℕ → Printed
+  TooShort : Printed
+
+-- what `print_case` of src answers
+abbrev pub as_printed : Option ℕ → Printed
+as_printed (Some n) = Written n
+as_printed None = TooShort
 
 unfoldable pub printed : List ℕ → ℕ → Printed
 printed b n = cond (ltb n limit) TooShort (Written (length (case_text b)))

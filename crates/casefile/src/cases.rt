@@ -1,176 +1,124 @@
 // A case: when it is malformed, and what it holds.
-ghost use Rattle.std.specs.Prelude.{◌≡◌, ◌+◌, ◌*◌, ◌≤◌, ◌<◌, length, take};
-ghost use Rattle.std.proofs.Math.Bool.{So};
-ghost use Rattle.casefile.specs.Cases.{has_five, pairs_ok, end_of, is_joined, is_last, parts_ok, lengths_ok, case_ok, wides, halves, slice, opening_between, opening_of};
-ghost use Rattle.monitor.specs.Monitors.{opening};
+ghost use Rattle.std.specs.Prelude.{◌≡◌, ◌&&◌, cond, leb, Some, None, length};
+ghost use Rattle.monitor.specs.Monitors.{opening, as_opened};
+ghost use Rattle.casefile.specs.Cases.{pairs_ok, case_ok, opening_between, opening_of};
+ghost use Rattle.casefile.specs.Private.{case_of, are_joined, are_measured, Holds};
 
-use super::numbers::{
-    EVENTS, GRANTS, PERMISSIONS, POLICY, WORKFLOW, half_at, length_of, offset_of, wide_at,
-};
-use monitor::{Monitor, Opened};
+use super::numbers::fill;
+use super::pairs::Part;
+use monitor::Monitor;
+use policy::Refusal;
 
-// Whether there are five pairs: the first part begins at 20.
-pub(crate) fn has_five(bytes: &[u8]) -> bool
-    requires { 12 ≤ length bytes.now }
-    ensures { result ≡ has_five bytes.now }
-{
-    offset_of(bytes, POLICY) == 20
+// A case file may have so many bytes.
+const LARGEST: usize = 4096;
+
+// Where a case's parts are. Permissions and workflow stand behind the others, in a case of five pairs.
+#[derive(Clone, Copy, Debug, PartialEq, Eq)]
+pub(crate) struct Case {
+    pub policy: Part,
+    pub grants: Part,
+    pub events: Part,
+    pub behind: Option<(Part, Part)>,
 }
 
-// Whether the pairs are three and the first part begins at 12, or five and there is room for them.
-fn pairs_ok(bytes: &[u8]) -> bool
-    requires { 12 ≤ length bytes.now }
-    ensures { result ≡ pairs_ok bytes.now }
-{
-    if has_five(bytes) {
-        return 20 <= bytes.len();
+impl Case {
+    // What the pairs say. They are three, and the first part begins at 12, or five, and it begins at 20.
+    fn of_pairs(bytes: &[u8]) -> Option<Case>
+        ensures { result ≡ cond (leb 12 (length bytes.now) && pairs_ok bytes.now) (Some (case_of bytes.now)) None }
+    {
+        if bytes.len() < 12 {
+            return None;
+        }
+        let policy = Part::at(bytes, 0);
+        let behind = match policy.offset {
+            12 => None,
+            20 if 20 <= bytes.len() => Some((Part::at(bytes, 3), Part::at(bytes, 4))),
+            _ => return None,
+        };
+        Some(Case {
+            policy,
+            grants: Part::at(bytes, 1),
+            events: Part::at(bytes, 2),
+            behind,
+        })
     }
-    offset_of(bytes, POLICY) == 12
-}
 
-// Where a part ends.
-fn end_of(bytes: &[u8], part: usize) -> usize
-    requires { part * 4 + 3 < length bytes.now }
-    ensures { result ≡ end_of bytes.now part }
-{
-    offset_of(bytes, part) + length_of(bytes, part)
-}
+    // Whether each part begins where the last ended, and the last one ends a file of this length.
+    fn are_joined(self, length: usize) -> bool
+        ensures { result ≡ are_joined self length }
+    {
+        self.grants.follows(self.policy)
+            && self.events.follows(self.grants)
+            && match self.behind {
+                None => length == self.events.end(),
+                Some((permissions, workflow)) => {
+                    permissions.follows(self.events)
+                        && workflow.follows(permissions)
+                        && length == workflow.end()
+                }
+            }
+    }
 
-// Whether the next part begins where this one ended.
-fn is_joined(bytes: &[u8], part: usize) -> bool
-    requires { part * 4 + 7 < length bytes.now }
-    ensures { result ≡ is_joined bytes.now part }
-{
-    offset_of(bytes, part + 1) == end_of(bytes, part)
-}
+    // Whether each part has a length that it may have.
+    fn are_measured(self) -> bool
+        ensures { result ≡ are_measured self }
+    {
+        self.policy.length % 4 == 0
+            && self.events.length % 4 == 0
+            && self.events.length <= 1024
+            && 2 <= self.grants.length
+            && self.grants.length % 2 == 0
+    }
 
-// Whether a part ends the file.
-fn is_last(bytes: &[u8], part: usize) -> bool
-    requires { part * 4 + 3 < length bytes.now }
-    ensures { result ≡ is_last bytes.now part }
-{
-    bytes.len() == end_of(bytes, part)
-}
+    // Reads a case; nothing of a malformed one.
+    pub fn read(bytes: &[u8]) -> Option<Case>
+        ensures { result ≡ cond (case_ok bytes.now) (Some (case_of bytes.now)) None }
+    {
+        if LARGEST < bytes.len() {
+            return None;
+        }
+        let case = Case::of_pairs(bytes)?;
+        (case.are_joined(bytes.len()) && case.are_measured()).then_some(case)
+    }
 
-// Whether each part begins where the last ended, and the last one ends the file.
-fn parts_ok(bytes: &[u8]) -> bool
-    requires { (12 ≤ length bytes.now) × So (pairs_ok bytes.now) }
-    ensures { result ≡ parts_ok bytes.now }
-{
-    if !is_joined(bytes, POLICY) {
-        return false;
+    // Opens the monitor that the case describes, with these permissions and this workflow.
+    fn open_with(
+        self,
+        bytes: &[u8],
+        permissions: &[u8],
+        workflow: &[u8],
+    ) -> Result<Monitor, Refusal>
+        requires { Holds bytes.now self }
+        ensures { as_opened result ≡ opening (opening_between bytes.now permissions.now workflow.now) }
+    {
+        // arrays as long as a case can fill, since nothing allocates
+        let mut words = [0u32; 1024];
+        let words = &mut words[..usize::from(self.policy.length / 4)];
+        fill(bytes, usize::from(self.policy.offset), words);
+        let grants = usize::from(self.grants.offset);
+        let mut rows = [0u16; 2048];
+        let rows = &mut rows[..usize::from((self.grants.length - 2) / 2)];
+        fill(bytes, grants + 2, rows);
+        Monitor::open(
+            bytes[grants],
+            bytes[grants + 1],
+            words,
+            rows,
+            permissions,
+            workflow,
+        )
     }
-    if !is_joined(bytes, GRANTS) {
-        return false;
-    }
-    if !has_five(bytes) {
-        return is_last(bytes, EVENTS);
-    }
-    if !is_joined(bytes, EVENTS) {
-        return false;
-    }
-    if !is_joined(bytes, PERMISSIONS) {
-        return false;
-    }
-    is_last(bytes, WORKFLOW)
-}
 
-// Whether each part has a length that it may have.
-fn lengths_ok(bytes: &[u8]) -> bool
-    requires { 12 ≤ length bytes.now }
-    ensures { result ≡ lengths_ok bytes.now }
-{
-    if length_of(bytes, POLICY) % 4 != 0 {
-        return false;
+    // Opens the monitor that the case describes.
+    pub fn open(self, bytes: &[u8]) -> Result<Monitor, Refusal>
+        requires { Holds bytes.now self }
+        ensures { as_opened result ≡ opening (opening_of bytes.now) }
+    {
+        match self.behind {
+            None => self.open_with(bytes, &[], &[]),
+            Some((permissions, workflow)) => {
+                self.open_with(bytes, permissions.within(bytes), workflow.within(bytes))
+            }
+        }
     }
-    let events = length_of(bytes, EVENTS);
-    if events % 4 != 0 {
-        return false;
-    }
-    if 1024 < events {
-        return false;
-    }
-    let grants = length_of(bytes, GRANTS);
-    if grants < 2 {
-        return false;
-    }
-    grants % 2 == 0
-}
-
-// Whether the case is not malformed.
-pub(crate) fn case_ok(bytes: &[u8]) -> bool
-    ensures { result ≡ case_ok bytes.now }
-{
-    if bytes.len() < 12 {
-        return false;
-    }
-    if 4096 < bytes.len() {
-        return false;
-    }
-    if !pairs_ok(bytes) {
-        return false;
-    }
-    if !parts_ok(bytes) {
-        return false;
-    }
-    lengths_ok(bytes)
-}
-
-// The first n words are the n numbers of 32 bits from place k on.
-fn fill_words(bytes: &[u8], k: usize, n: usize, words: &mut [u32])
-    requires { (k + n * 4 ≤ length bytes.now) × (n ≤ length words.old) }
-    ensures { take n words.new ≡ wides bytes.now k n }
-{
-    let mut i = 0;
-    while i < n {
-        words[i] = wide_at(bytes, k + i * 4);
-        i += 1;
-    }
-}
-
-// The first n rows are the n numbers of 16 bits from place k on.
-fn fill_rows(bytes: &[u8], k: usize, n: usize, rows: &mut [u16])
-    requires { (k + n * 2 ≤ length bytes.now) × (n ≤ length rows.old) }
-    ensures { take n rows.new ≡ halves bytes.now k n }
-{
-    let mut i = 0;
-    while i < n {
-        rows[i] = half_at(bytes, k + i * 2);
-        i += 1;
-    }
-}
-
-// Opens the monitor that a case describes whose permissions and workflow lie between these places.
-fn open_between(bytes: &[u8], permissions: usize, workflow: usize, end: usize) -> Opened
-    requires { So (case_ok bytes.now) × (permissions ≤ workflow) × (workflow ≤ end) × (end ≤ length bytes.now) }
-    ensures { result ≡ opening (opening_between bytes.now (slice bytes.now permissions workflow) (slice bytes.now workflow end)) }
-{
-    let count = length_of(bytes, POLICY) / 4;
-    let mut words = [0u32; 1024];
-    fill_words(bytes, offset_of(bytes, POLICY), count, &mut words);
-    let grants = offset_of(bytes, GRANTS);
-    let users = (length_of(bytes, GRANTS) - 2) / 2;
-    let mut rows = [0u16; 2048];
-    fill_rows(bytes, grants + 2, users, &mut rows);
-    Monitor::open(
-        bytes[grants],
-        bytes[grants + 1],
-        &words[..count],
-        &rows[..users],
-        &bytes[permissions..workflow],
-        &bytes[workflow..end],
-    )
-}
-
-// Opens the monitor that the case describes.
-pub(crate) fn open_case(bytes: &[u8]) -> Opened
-    requires { So (case_ok bytes.now) }
-    ensures { result ≡ opening (opening_of bytes.now) }
-{
-    if !has_five(bytes) {
-        return open_between(bytes, 0, 0, 0);
-    }
-    let permissions = offset_of(bytes, PERMISSIONS);
-    let workflow = offset_of(bytes, WORKFLOW);
-    open_between(bytes, permissions, workflow, bytes.len())
 }

@@ -1,46 +1,51 @@
-// Numbers in a case's bytes, low byte first, and its pairs of offset and length.
-ghost use Rattle.std.specs.Prelude.{◌≡◌, ◌+◌, ◌*◌, ◌<◌, length};
-ghost use Rattle.casefile.specs.Cases.{half, wide, offset, part_length};
+// Numbers in a case's bytes, low byte first.
+ghost use Rattle.std.specs.Prelude.{◌≡◌, ◌+◌, ◌*◌, ◌≤◌, ℕ, List, length};
+ghost use Rattle.casefile.specs.Cases.{half, wide, numbers};
 
-// The number of 16 bits at place k.
-pub(crate) fn half_at(bytes: &[u8], k: usize) -> u16
-    requires { k + 1 < length bytes.now }
-    ensures { result ≡ half bytes.now k }
-{
-    bytes[k] as u16 + bytes[k + 1] as u16 * 256
+// A number that so many bytes hold.
+pub(crate) trait Number: Copy {
+    ghost WIDTH: { ℕ };
+
+    ghost at: { List ℕ → ℕ → Self };
+
+    const WIDTH: usize;
+
+    // The number at place k.
+    fn read(bytes: &[u8], k: usize) -> Self
+        requires { k + WIDTH ≤ length bytes.now }
+        ensures { result ≡ at bytes.now k };
 }
 
-// The number of 32 bits at place k.
-pub(crate) fn wide_at(bytes: &[u8], k: usize) -> u32
-    requires { k + 3 < length bytes.now }
-    ensures { result ≡ wide bytes.now k }
-{
-    half_at(bytes, k) as u32 + half_at(bytes, k + 2) as u32 * 65536
+impl Number for u16 {
+    ghost WIDTH = { 2 };
+
+    ghost at = { half };
+
+    const WIDTH: usize = 2;
+
+    fn read(bytes: &[u8], k: usize) -> u16 {
+        u16::from_le_bytes([bytes[k], bytes[k + 1]])
+    }
 }
 
-// The parts of a case, in order.
-pub(crate) const POLICY: usize = 0;
+impl Number for u32 {
+    ghost WIDTH = { 4 };
 
-pub(crate) const GRANTS: usize = 1;
+    ghost at = { wide };
 
-pub(crate) const EVENTS: usize = 2;
+    const WIDTH: usize = 4;
 
-pub(crate) const PERMISSIONS: usize = 3;
-
-pub(crate) const WORKFLOW: usize = 4;
-
-// Where a part begins.
-pub(crate) fn offset_of(bytes: &[u8], part: usize) -> usize
-    requires { part * 4 + 3 < length bytes.now }
-    ensures { (result ≡ offset bytes.now part) × (result < 65536) }
-{
-    half_at(bytes, part * 4) as usize
+    fn read(bytes: &[u8], k: usize) -> u32 {
+        u32::from_le_bytes([bytes[k], bytes[k + 1], bytes[k + 2], bytes[k + 3]])
+    }
 }
 
-// How many bytes a part has.
-pub(crate) fn length_of(bytes: &[u8], part: usize) -> usize
-    requires { part * 4 + 3 < length bytes.now }
-    ensures { (result ≡ part_length bytes.now part) × (result < 65536) }
+// Fills the places with the numbers that stand one behind the other from place k of the bytes on.
+pub(crate) fn fill<T: Number>(bytes: &[u8], k: usize, places: &mut [T])
+    requires { k + length places.old * T.WIDTH ≤ length bytes.now }
+    ensures { places.new ≡ numbers (T.at bytes.now) T.WIDTH k (length places.old) }
 {
-    half_at(bytes, part * 4 + 2) as usize
+    for i in 0..places.len() {
+        places[i] = T::read(bytes, k + i * T::WIDTH);
+    }
 }

@@ -1,13 +1,15 @@
 // A run of a case's events: each is judged, and its line put.
 ghost use Rattle.std.specs.Prelude.{◌≡◌};
-ghost use Rattle.monitor.specs.Statuses.{letter};
+ghost use Rattle.monitor.specs.Statuses.{status_of};
 ghost use Rattle.casefile.specs.Cases.{event_words};
 ghost use Rattle.casefile.specs.Texts.{run_text};
 ghost use Rattle.casefile.specs.Private.{Put, CanStep, Stepped, CanRun};
 
-use super::numbers::{EVENTS, length_of, offset_of, wide_at};
+use super::numbers::Number;
+use super::pairs::Part;
 use super::texts::{put_line, put_taken};
-use monitor::{Monitor, Status};
+use monitor::Monitor;
+use policy::number_of;
 
 // What an event leaves: the monitor, and the place behind its line.
 #[derive(Clone, Copy)]
@@ -16,19 +18,17 @@ struct Left {
     at: usize,
 }
 
-// The letter of a status; a refusal has none.
-fn letter_of(status: Status) -> u8
-    ensures { result ≡ letter status }
+// The letter of the monitor's status; a refusal has none.
+fn letter_of(monitor: Monitor) -> u8
+    ensures { result ≡ (status_of monitor).letter }
 {
-    match status {
-        Status::Closed => b'd',
-        Status::Complete => b'c',
-        Status::Open => b'o',
-        Status::Refused(_) => 0,
+    match monitor.status() {
+        Ok(status) => u8::from(status),
+        Err(_) => 0,
     }
 }
 
-// One event: its line is its place, its number and the status after it.
+// One event: its line is its place, its number and the status after it. A refusal keeps the monitor.
 fn step(
     monitor: Monitor,
     word: u32,
@@ -41,9 +41,8 @@ fn step(
     ensures { Stepped monitor word place out.old at result.monitor result.at out.new }
 {
     let answer = monitor.event(word, workspace);
-    let next = answer.monitor;
-    let status = next.status();
-    let end = put_line(out, at, place, answer.code, letter_of(status));
+    let next = answer.unwrap_or(monitor);
+    let end = put_line(out, at, place, number_of(answer), letter_of(next));
     Left {
         monitor: next,
         at: end,
@@ -51,23 +50,20 @@ fn step(
 }
 
 // The lines of the case's events, then the number of actions taken.
-pub(crate) fn run(monitor: Monitor, bytes: &[u8], out: &mut [u8]) -> usize
-    requires { CanRun monitor bytes.now out.old }
+pub(crate) fn run(monitor: Monitor, bytes: &[u8], events: Part, out: &mut [u8]) -> usize
+    requires { CanRun monitor bytes.now events out.old }
     ensures { Put out.old 0 (run_text monitor (event_words bytes.now)) result out.new }
 {
-    let from = offset_of(bytes, EVENTS);
-    let count = length_of(bytes, EVENTS) / 4;
+    let from = usize::from(events.offset);
+    let count = usize::from(events.length) / 4;
     let mut workspace = [0u32; 8192];
     let mut current = monitor;
     let mut at = 0;
-    let mut i = 0;
-    while i < count {
-        let word = wide_at(bytes, from + i * 4);
+    for i in 0..count {
+        let word = u32::read(bytes, from + i * 4);
         let stepped = step(current, word, i + 1, out, at, &mut workspace);
         current = stepped.monitor;
         at = stepped.at;
-        i += 1;
     }
-    let instance = current.instance;
-    put_taken(out, at, instance.taken)
+    put_taken(out, at, current.instance.taken)
 }

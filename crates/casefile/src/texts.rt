@@ -1,15 +1,18 @@
-// Text, put at a place of an output: each function answers the place behind its text.
+// Text, put at a place of an output: each function answers the place behind its text. The output and the place are two parameters: a struct of
+// both would hold the output behind a reference, and a slice from the place on would be cut, and its count added, at each call. No `Display`
+// prints the text, since the theorems give it byte for byte.
 ghost use Rattle.std.specs.Prelude.{◌≡◌, [], ◌∷◌, ◌++◌, ◌/◌};
+ghost use Rattle.policy.specs.Answers.{code_of};
 ghost use Rattle.casefile.specs.Texts.{digit, decimal, refused_text, taken_text, line_text};
 ghost use Rattle.casefile.specs.Private.{HasRoom, Put};
 
-use policy::Code;
+use policy::Refusal;
 
 // The last decimal digit of a number.
 fn digit_of(n: usize) -> u8
     ensures { result ≡ digit n }
 {
-    48 + (n % 10) as u8
+    b'0' + (n % 10) as u8
 }
 
 // One byte.
@@ -26,12 +29,9 @@ fn put_bytes(out: &mut [u8], at: usize, text: &[u8]) -> usize
     requires { HasRoom out.old at text.now }
     ensures { Put out.old at text.now result out.new }
 {
-    let mut i = 0;
-    while i < text.len() {
-        out[at + i] = text[i];
-        i += 1;
-    }
-    at + i
+    let end = at + text.len();
+    out[at..end].copy_from_slice(text);
+    end
 }
 
 // The last two decimal digits of a number.
@@ -86,16 +86,14 @@ fn put_counted(out: &mut [u8], at: usize, word: &[u8], n: u8) -> usize
 }
 
 // `refused k`, and `refused k at p` of a policy's fault.
-pub(crate) fn put_refused(out: &mut [u8], at: usize, code: Code) -> usize
-    requires { HasRoom out.old at (refused_text code) }
-    ensures { Put out.old at (refused_text code) result out.new }
+pub(crate) fn put_refused(out: &mut [u8], at: usize, refusal: Refusal) -> usize
+    requires { HasRoom out.old at (refused_text (code_of refusal)) }
+    ensures { Put out.old at (refused_text (code_of refusal)) result out.new }
 {
-    match code {
-        Code::Fault { number, place } => {
-            let end = put_numbered(out, at, b"refused ", number);
-            put_counted(out, end, b" at ", place)
-        }
-        Code::Plain(number) => put_counted(out, at, b"refused ", number),
+    let end = put_numbered(out, at, b"refused ", refusal.number());
+    match refusal.place() {
+        Some(place) => put_counted(out, end, b" at ", place),
+        None => put(out, end, b'\n'),
     }
 }
 

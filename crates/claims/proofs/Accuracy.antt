@@ -3,6 +3,7 @@ use mathlib.Core.Path.{◌≡◌, refl, sym, ◌∙◌, ap, subst, subst₂}
 use mathlib.Core.Logic.{◌↔◌, ◌≢◌}
 use mathlib.Core.Bool.{Bool, true, false, So, not, ◌&&◌, ◌||◌, cond, and-true, true≢false}
 use mathlib.Core.List.{List, [], ◌∷◌, ◌++◌, append-nil}
+use Rattle.std.specs.Prelude.{Option, Some, None}
 use Prim.Native.Nat.{ℕ, ◌≤◌, ◌<◌}
 use native.Mathlib.Omega.{arith}
 use lib.Dec.{leb, ltb}
@@ -12,8 +13,6 @@ use Rattle.soda.specs.Tables.{satisfied, possible}
 use Rattle.soda.specs.Traces.{Event as TraceEvent, business, add_ua, rm_ua, Trace, upd, acted_below, noted}
 use Rattle.soda.specs.Workflows.{successor, follow, reached, is_somewhere, is_final, authorized_all}
 use Rattle.soda.specs.declared.Action.{Action}
-use Rattle.soda.specs.declared.Successor.{Successor}
-use Rattle.soda.specs.declared.Successor.TheVariants.{To, Nowhere}
 use Rattle.soda.specs.Csp.{Accepts}
 use Rattle.soda.specs.Processes.{Symbol, event, done, body, SSW, without_admin, without_done, unfinished, finished}
 use Rattle.soda.proofs.Bools.{never, by_test, and_split, and-join, so_lt, lt_so}
@@ -22,10 +21,8 @@ use Rattle.soda.proofs.Secure.{secure-is-all_three, rbac-is-authorized, workflow
 use Rattle.soda.proofs.Accuracy.{possible-is-process, satisfied-is_trace, satisfied-is-multiset, theorem_1}
 use Rattle.soda.proofs.Endings.{nothing_follows_done}
 use Rattle.policy.specs.Codes.{ACCEPTED, MALFORMED, FULL, NOT_POSSIBLE, CLOSED, NOT_SATISFIED, NOT_AUTHORIZED, NO_TRANSITION}
-use Rattle.monitor.specs.declared.Event.{Event}
-use Rattle.monitor.specs.declared.Event.TheVariants.{Acts, Grants, Revokes, Closes, Malformed}
 use Rattle.monitor.specs.Monitors.{Opening, policy, opened}
-use Rattle.monitor.specs.Events.{is_malformed, is_short, event_code}
+use Rattle.monitor.specs.Events.{Event, Acts, Grants, Revokes, Closes, Malformed, is_malformed, is_short, event_code}
 use Rattle.instance.specs.Letters.{letter_d, letter_c, letter_o}
 use Rattle.monitor.specs.Runs.{is_action}
 use Rattle.monitor.specs.Laws.{Declared}
@@ -110,13 +107,13 @@ asked_holds true p = (λ e x. e, λ f. f refl)
 asked_holds false p = (λ e x. never x, λ f. refl)
 
 -- ── where a trace leads that goes on by one event ──
-to_itself : (s : Successor) → is_somewhere (follow s To) ≡ is_somewhere s
-to_itself (To n) = refl
-to_itself Nowhere = refl
+to_itself : (s : Option ℕ) → is_somewhere (follow s Some) ≡ is_somewhere s
+to_itself (Some n) = refl
+to_itself None = refl
 
-somewhere_next : (s : Successor) (g : ℕ → Successor) → is_somewhere (follow s (λ n. follow (g n) To)) ≡ is_somewhere (follow s g)
-somewhere_next (To n) g = to_itself (g n)
-somewhere_next Nowhere g = refl
+somewhere_next : (s : Option ℕ) (g : ℕ → Option ℕ) → is_somewhere (follow s (λ n. follow (g n) Some)) ≡ is_somewhere (follow s g)
+somewhere_next (Some n) g = to_itself (g n)
+somewhere_next None g = refl
 
 module _ (r : Run) where
   abbrev o : Opening
@@ -195,7 +192,7 @@ module _ (r : Run) where
         (order_of (t ++ (business u a ∷ [])))
 
     -- an admin event is taken by both
-    admin-taken : (e : TraceEvent) → authorized_all (permissions_of o) (upd o.rows t) (e ∷ []) ≡ true → ((n : ℕ) → reached (ordering o) n (e ∷ []) ≡ To n)
+    admin-taken : (e : TraceEvent) → authorized_all (permissions_of o) (upd o.rows t) (e ∷ []) ≡ true → ((n : ℕ) → reached (ordering o) n (e ∷ []) ≡ Some n)
         → Order (unfinished (t ++ (e ∷ []))) × Access (unfinished (t ++ (e ∷ [])))
     admin-taken e p q = (
       (order_of (t ++ (e ∷ []))).0 (ap is_somewhere (order_next (e ∷ []) ∙ ap (λ x. follow x (λ n. reached (ordering o) n (e ∷ []))) (follows.same_state h) ∙ q (left r).instance.state)),
@@ -237,7 +234,7 @@ module _ (r : Run) where
       (λ h. iff_trans (rw h (zero-code b NOT_POSSIBLE (omega arith))) (iff_trans sod (one-is h s)))
 
   admin-process : (e : TraceEvent) → So (acted_below o.users (e ∷ [])) → noted φ (upd o.rows t) (e ∷ []) ≡ []
-      → authorized_all (permissions_of o) (upd o.rows t) (e ∷ []) ≡ true → ((n : ℕ) → reached (ordering o) n (e ∷ []) ≡ To n)
+      → authorized_all (permissions_of o) (upd o.rows t) (e ∷ []) ≡ true → ((n : ℕ) → reached (ordering o) n (e ∷ []) ≡ Some n)
       → Enforced r (unfinished (t ++ (e ∷ [])))
   admin-process e d k p q =
       let sod = (process-next e d).0 (possible-next e k) in

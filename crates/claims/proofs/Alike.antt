@@ -16,10 +16,8 @@ use Rattle.soda.proofs.Joins.{rewrites_keep_judgement}
 use Rattle.policy.specs.Codes.{ACCEPTED, FULL, NOT_POSSIBLE, CLOSED, NOT_SATISFIED, NOT_AUTHORIZED, NO_TRANSITION}
 use Rattle.policy.specs.Refusals.{code}
 use Rattle.monitor.specs.declared.Monitor.{Monitor}
-use Rattle.monitor.specs.declared.Event.{Event}
-use Rattle.monitor.specs.declared.Event.TheVariants.{Acts, Grants, Revokes, Closes, Malformed}
 use Rattle.monitor.specs.Monitors.{Opening, given, policy, open_code, opened}
-use Rattle.monitor.specs.Events.{read_event, is_short, event_in, event_refusals, applied, event_code, event_monitor}
+use Rattle.monitor.specs.Events.{Event, Acts, Grants, Revokes, Closes, Malformed, read_event, is_short, event_in, event_refusals, applied, event_code, event_monitor}
 use Rattle.instance.specs.Letters.{letter_d, open_letter}
 use Rattle.monitor.specs.Statuses.{status_code, status_letter}
 use Rattle.monitor.specs.Runs.{Lengths, EnoughFor, from, Step, step_of, run}

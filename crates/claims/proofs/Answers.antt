@@ -12,11 +12,9 @@ use Rattle.soda.proofs.Bools.{by_test}
 use Rattle.policy.specs.Codes.{ACCEPTED, MALFORMED, FULL, NOT_POSSIBLE, CLOSED, NOT_SATISFIED, NOT_AUTHORIZED, NO_TRANSITION}
 use Rattle.policy.specs.Refusals.{code}
 use Rattle.monitor.specs.declared.Monitor.{Monitor}
-use Rattle.monitor.specs.declared.Event.{Event}
-use Rattle.monitor.specs.declared.Event.TheVariants.{Acts, Grants, Revokes, Closes, Malformed}
 use Rattle.instance.specs.Instances.{taken_of, term, is_closed}
 use Rattle.monitor.specs.Monitors.{Opening, policy, open_code, admission}
-use Rattle.monitor.specs.Events.{read_event, event_in, is_malformed, is_short, own_refusals, event_refusals, event_code}
+use Rattle.monitor.specs.Events.{Event, Acts, Grants, Revokes, Closes, Malformed, read_event, event_in, is_malformed, is_short, own_refusals, event_refusals, event_code}
 use Rattle.instance.specs.Letters.{letter_d, letter_c, open_letter}
 use Rattle.monitor.specs.Statuses.{status_code, status_letter}
 use Rattle.monitor.specs.Laws.{Declared}

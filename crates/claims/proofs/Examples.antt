@@ -20,10 +20,9 @@ use Rattle.configuration.specs.Configurations.{configuration_ok}
 use Rattle.instance.specs.Instances.{instance_ok}
 use Rattle.instance.specs.Steps.{is_authorized, leads_to, is_final}
 use Rattle.monitor.specs.declared.Monitor.{Monitor}
-use Rattle.monitor.specs.declared.Enabled.TheVariants.{Users, Refused}
 use Rattle.monitor.specs.Monitors.{given, bare, open_refusals, blank, fresh, opened, admission}
 use Rattle.monitor.specs.Events.{read_event, event_refusals}
-use Rattle.monitor.specs.Enabled.{enabled_mask, enabled_in}
+use Rattle.monitor.specs.Enabled.{Users, Refused, enabled_mask, enabled_in}
 use Rattle.monitor.specs.Runs.{run, final}
 use Rattle.multiset.specs.MultisetTest.{test_refusals, test_of}
 use Rattle.claims.specs.Runs.{lines}

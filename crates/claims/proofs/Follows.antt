@@ -4,6 +4,7 @@ use mathlib.Core.Path.{◌≡◌, refl, sym, ◌∙◌, ap, ap₂, subst}
 use mathlib.Core.Bool.{Bool, true, false, So, not, ◌||◌, cond}
 use mathlib.Core.List.{List, [], ◌∷◌, ◌++◌, map, map-append, append-nil, append_assoc}
 use mathlib.Core.Option.{some}
+use Rattle.std.specs.Prelude.{Option, Some, None}
 use Prim.Native.Nat.{ℕ, ◌-◌, ◌≤◌, ◌<◌}
 use native.Mathlib.Omega.{arith}
 use lib.Dec.{leb, ltb, eqb}
@@ -15,8 +16,6 @@ use Rattle.soda.specs.Lists.{padded}
 use Rattle.soda.specs.Terms.{Term, size, well_formed as wellFormedTerm}
 use Rattle.soda.specs.Roles.{UA, roles, grant, revoke, authorized}
 use Rattle.soda.specs.Workflows.{successor, follow, reached, is_somewhere, is_final, authorized_all}
-use Rattle.soda.specs.declared.Successor.{Successor}
-use Rattle.soda.specs.declared.Successor.TheVariants.{To, Nowhere}
 use Rattle.soda.specs.declared.Action.{Action}
 use Rattle.soda.specs.Tables.{satisfied, possible, note}
 use Rattle.soda.specs.Traces.{business, add_ua, rm_ua, Trace, upd, after, acted_below, execution, executed, noted}
@@ -38,14 +37,12 @@ use Rattle.workflow.specs.Workflows.{transitions_of, is_given, is_final_state, w
 use Rattle.configuration.specs.declared.Configuration.{Configuration}
 use Rattle.instance.specs.declared.Instance.{Instance}
 use Rattle.monitor.specs.declared.Monitor.{Monitor}
-use Rattle.monitor.specs.declared.Event.{Event}
-use Rattle.monitor.specs.declared.Event.TheVariants.{Acts, Grants, Revokes, Closes, Malformed}
 use Rattle.configuration.specs.Configurations.{assignment, held}
 use Rattle.instance.specs.Instances.{policy_of, taken_of, term, has_workflow, is_closed, noted as notedAs, noted_for}
 use Rattle.instance.specs.Steps.{is_authorized, leads_to, state_of, is_final as isFinalHere}
 use Rattle.monitor.specs.Monitors.{Opening, policy, secure, open_code, fresh, opened, well_formed}
 use Rattle.monitor.specs.Statuses.{letter_of}
-use Rattle.monitor.specs.Events.{is_short, event_in, own_refusals, configured, advanced, applied, event_code, event_monitor, outcome, tried}
+use Rattle.monitor.specs.Events.{Event, Acts, Grants, Revokes, Closes, Malformed, is_short, event_in, own_refusals, configured, advanced, applied, event_code, event_monitor, outcome, tried}
 use Rattle.monitor.specs.Laws.{Declared, Passed}
 use Rattle.monitor.specs.Runs.{Lengths, from, step_of, run, final}
 use Rattle.monitor.proofs.Opening.{opened-is-fresh}
@@ -139,13 +136,13 @@ pub record Follows (o : Opening) (m : Monitor) (l : List Symbol) : Type 0 where
   pub ends : l ≡ ended (trace_of l) (has_closed l)
   pub same_permissions : m.configuration.permissions ≡ (secure o).permissions
   pub same_workflow : m.instance.workflow ≡ (secure o).workflow
-  pub same_state : So (is_ordered o) → state_after o (trace_of l) ≡ To m.instance.state
+  pub same_state : So (is_ordered o) → state_after o (trace_of l) ≡ Some m.instance.state
   pub permitted : So (is_ordered o) → So (authorized_all (permissions_of o) o.rows (trace_of l))
 
 -- a trace that goes on somewhere
-arrives : (s : Successor) → So (is_somewhere s) → follow s To ≡ To (state_of s)
-arrives (To n) h = refl
-arrives Nowhere h = never h
+arrives : (s : Option ℕ) → So (is_somewhere s) → follow s Some ≡ Some (state_of s)
+arrives (Some n) h = refl
+arrives None h = never h
 
 module _ (o : Opening) (z : open_code o ≡ 0) where
   follows_fresh : Follows o (fresh o) []
@@ -330,10 +327,10 @@ module _ (o : Opening) (z : open_code o ≡ 0) where
       state-more : (s : Trace) → state_after o (t ++ s) ≡ reached (ordering o) i.state s
       state-more s = reached_append (ordering o) t s 0 ∙ ap (λ x. follow x (λ n. reached (ordering o) n s)) (f.same_state h)
 
-      state-next : (e : Event) → code (own_refusals c i e) ≡ 0 → state_after o (t ++ trace_of (symbol_of e)) ≡ To (advanced c i e).state
+      state-next : (e : Event) → code (own_refusals c i e) ≡ 0 → state_after o (t ++ trace_of (symbol_of e)) ≡ Some (advanced c i e).state
       state-next (Acts u a) k =
           let j = clear (own_refusals c i (Acts u a)) refl k in
-          state-more (business u a ∷ []) ∙ ap (λ s. follow s To) (sym (leads_to_lem h a)) ∙ arrives (leads_to i a) (not-false (is_somewhere (leads_to i a)) j.1.0)
+          state-more (business u a ∷ []) ∙ ap (λ s. follow s Some) (sym (leads_to_lem h a)) ∙ arrives (leads_to i a) (not-false (is_somewhere (leads_to i a)) j.1.0)
       state-next (Grants u r) k = state-more (add_ua u r ∷ [])
       state-next (Revokes u r) k = state-more (rm_ua u r ∷ [])
       state-next Closes k = state-more []

@@ -12,10 +12,9 @@ use Rattle.soda.proofs.Bools.{by_test}
 use Rattle.policy.specs.Kinds.{CLOSE}
 use Rattle.policy.specs.Refusals.{Refusals, code}
 use Rattle.monitor.specs.declared.Monitor.{Monitor}
-use Rattle.monitor.specs.declared.Enabled.{Enabled}
 use Rattle.monitor.specs.Monitors.{admission}
 use Rattle.monitor.specs.Events.{event_in, applied, event_refusals, event_code, event_monitor}
-use Rattle.monitor.specs.Enabled.{action_word, enabled_mask, answered, enabled_in, enabled_of}
+use Rattle.monitor.specs.Enabled.{Enabled, action_word, enabled_mask, answered, enabled_in, enabled_of}
 use Rattle.monitor.specs.Runs.{Lengths, Enough, from, run, final}
 use Rattle.claims.specs.KeptMask.{kept, AskIsCall, KeptIsNow}
 

@@ -27,10 +27,8 @@ use Rattle.instance.specs.declared.Instance.{Instance}
 use Rattle.instance.specs.Instances.{policy_of, taken_of, term, has_workflow, is_closed, noted_for}
 use Rattle.instance.specs.Steps.{is_authorized, leads_to}
 use Rattle.monitor.specs.declared.Monitor.{Monitor}
-use Rattle.monitor.specs.declared.Event.{Event}
-use Rattle.monitor.specs.declared.Event.TheVariants.{Acts, Malformed}
 use Rattle.monitor.specs.Monitors.{policy, well_formed, admission}
-use Rattle.monitor.specs.Events.{is_short, event_in, entry, tried, own_refusals, event_refusals, event_code}
+use Rattle.monitor.specs.Events.{Event, Acts, Malformed, is_short, event_in, entry, tried, own_refusals, event_refusals, event_code}
 use Rattle.monitor.specs.Enabled.{action_word, enabled_mask}
 use Rattle.monitor.proofs.Reading.{Asks, asks, long-is_enough}
 use Rattle.monitor.proofs.Enabling.{read_action, bit-is-action, no_other-bit}

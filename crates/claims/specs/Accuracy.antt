@@ -12,11 +12,9 @@ use Rattle.soda.specs.Processes.{Symbol, event, done, P, is_done, body, SOD, W, 
 use Rattle.policy.specs.Codes.{ACCEPTED, FULL, NOT_AUTHORIZED, NO_TRANSITION}
 use Rattle.workspace.specs.Workspace.{filled}
 use Rattle.monitor.specs.declared.Monitor.{Monitor}
-use Rattle.monitor.specs.declared.Event.{Event}
-use Rattle.monitor.specs.declared.Event.TheVariants.{Acts, Grants, Revokes, Closes, Malformed}
 use Rattle.monitor.specs.Monitors.{Opening, policy, open_code, opened}
 use Rattle.instance.specs.Letters.{letter_d, letter_c, letter_o}
-use Rattle.monitor.specs.Events.{read_event, is_malformed, is_short, event_code}
+use Rattle.monitor.specs.Events.{Event, Acts, Grants, Revokes, Closes, Malformed, read_event, is_malformed, is_short, event_code}
 use Rattle.monitor.specs.Statuses.{status_letter}
 use Rattle.monitor.specs.Runs.{Lengths, Step, run, final, is_action}
 use Rattle.multiset.specs.MultisetTest.{total, noted_by, letter_y, letter_n, unordered, test_of, test_workspace}

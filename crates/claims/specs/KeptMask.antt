@@ -2,8 +2,7 @@
 -- event; show that a refused one leaves it right").
 use Rattle.std.specs.Prelude.{◌≡◌, cond, List, [], ◌∷◌, ℕ, ◌≤◌, eqb, length}
 use Rattle.monitor.specs.declared.Monitor.{Monitor}
-use Rattle.monitor.specs.declared.Enabled.{Enabled}
-use Rattle.monitor.specs.Enabled.{enabled_in, enabled_of}
+use Rattle.monitor.specs.Enabled.{Enabled, enabled_in, enabled_of}
 use Rattle.monitor.specs.Runs.{Lengths, Enough, from, Step, run, final}
 
 -- what a program has for action a after a run: what it had, or what it asked for after the last accepted event; each call has a workspace

@@ -1,9 +1,8 @@
 -- What an opening says of permissions and workflow (document 02, E4), as document 004 has them.
-use Rattle.std.specs.Prelude.{Bool, not, ◌||◌, [], ℕ}
+use Rattle.std.specs.Prelude.{Bool, not, ◌||◌, ℕ, Option}
 use Rattle.soda.specs.Roles.{roles, PA, authorized}
 use Rattle.soda.specs.Traces.{Trace, upd}
 use Rattle.soda.specs.Workflows.{Transitions, successor, follow, reached, is_final}
-use Rattle.soda.specs.declared.Successor.{Successor}
 use Rattle.workflow.specs.Permissions.{permissions_in}
 use Rattle.workflow.specs.Workflows.{transitions_of, workflow_of}
 use Rattle.workflow.specs.Reading.{are_empty}
@@ -24,10 +23,10 @@ abbrev pub finals : Opening → ℕ
 finals o = (workflow_of o.workflow).final_states
 
 -- after a trace of accepted events: where the workflow is, where an action would lead, and whether it may end
-abbrev pub state_after : Opening → Trace → Successor
+abbrev pub state_after : Opening → Trace → Option ℕ
 state_after o t = reached (ordering o) 0 t
 
-abbrev pub leads_after : Opening → Trace → ℕ → Successor
+abbrev pub leads_after : Opening → Trace → ℕ → Option ℕ
 leads_after o t a = follow (state_after o t) (λ s. successor (ordering o) s a)
 
 abbrev pub may_end : Opening → Trace → Bool

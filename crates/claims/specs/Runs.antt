@@ -3,8 +3,7 @@ use Rattle.std.specs.Prelude.{cond, List, [], ◌∷◌, ◌++◌, map, ℕ, eqb
 use Rattle.soda.specs.Traces.{business, add_ua, rm_ua}
 use Rattle.soda.specs.Processes.{Symbol, event, done}
 use Rattle.policy.specs.Codes.{ACCEPTED}
-use Rattle.monitor.specs.declared.Event.{Event}
-use Rattle.monitor.specs.declared.Event.TheVariants.{Acts, Grants, Revokes, Closes, Malformed}
+use Rattle.monitor.specs.Events.{Event, Acts, Grants, Revokes, Closes, Malformed}
 use Rattle.monitor.specs.Runs.{Step}
 
 -- An event in the layout as document 004 has it: an action with its number, a grant or revocation, or done for a close.

@@ -10,9 +10,8 @@ use Rattle.policy.specs.Refusals.{Refusals, ◌gives◌, code}
 use Rattle.configuration.specs.Configurations.{held}
 use Rattle.instance.specs.Instances.{has_workflow}
 use Rattle.monitor.specs.declared.Monitor.{Monitor}
-use Rattle.monitor.specs.declared.Event.TheVariants.{Acts}
 use Rattle.monitor.specs.Monitors.{Opening, admission}
-use Rattle.monitor.specs.Events.{event_in, entry, event_code}
+use Rattle.monitor.specs.Events.{Acts, event_in, entry, event_code}
 use Rattle.monitor.specs.Enabled.{enabled_mask}
 use Rattle.multiset.specs.MultisetTest.{letter_n, test_of}
 use Rattle.claims.specs.Ordered.{is_ordered}

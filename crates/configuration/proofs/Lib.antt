@@ -1,6 +1,7 @@
 -- Vocabulary.
+pub mod Chains
 pub mod Digits
-pub mod Loops
+pub mod Laying
 pub mod Gathering
 -- A well-formed configuration.
 pub mod Formed

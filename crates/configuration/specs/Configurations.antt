@@ -1,13 +1,15 @@
 -- The configuration (document 004, Definition 1): the counts, who holds which roles, and which roles give which actions.
-use Rattle.std.specs.Prelude.{Bool, not, ◌&&◌, cond, List, [], ◌∷◌, ℕ, ◌^◌, ltb, eqb, length, take, drop, set as put, replicate}
+use Rattle.std.specs.Prelude.{Bool, not, ◌&&◌, cond, List, [], ◌∷◌, ℕ, ◌^◌, ltb, eqb, length, take, drop, set as put, replicate, Result, Ok, Err}
 use Rattle.soda.specs.Bits.{set_bit, clear_bit}
 use Rattle.soda.specs.Lists.{all, padded}
 use Rattle.soda.specs.Roles.{UA, roles}
-use Rattle.policy.specs.Codes.{COUNTS, ROWS}
+use Rattle.policy.specs.Codes.{ACCEPTED, COUNTS, ROWS}
 use Rattle.policy.specs.Refusals.{Refusals, ◌gives◌, code}
 use Rattle.policy.specs.Reading.{count_ok}
+use Rattle.policy.specs.Faults.{code_number}
+use Rattle.policy.specs.Answers.{code_of}
+use Rattle.policy.specs.declared.refusal.Refusal.{Refusal}
 use Rattle.configuration.specs.declared.Configuration.{Configuration}
-use Rattle.configuration.specs.declared.Configured.{Configured}
 
 -- the user assignment UA (01: grants): a row for each user, bit r for role r
 abbrev pub assignment : Configuration → UA
@@ -41,12 +43,21 @@ row_refusals users roles rows = (not (rows_ok users roles rows) gives ROWS) ∷ 
 abbrev pub configuration_refusals : ℕ → ℕ → List ℕ → Refusals
 configuration_refusals users roles rows = (not (count_ok users && count_ok roles) gives COUNTS) ∷ row_refusals users roles rows
 
--- the number, and the configuration; all zero where it is refused
+-- what an opening gives a configuration: its number, and the configuration; all zero where it is refused
+pub record Configured : Type 0 where
+  pub code : ℕ
+  pub configuration : Configuration
+
 abbrev pub configured_as : ℕ → Configuration → Configured
 configured_as k c = record { code = k; configuration = cond (eqb k 0) c no_configuration }
 
 unfoldable pub given_configuration : ℕ → ℕ → List ℕ → Configured
 given_configuration users roles rows = configured_as (code (configuration_refusals users roles rows)) (configuration_of users roles rows)
+
+-- what `open` of src answers
+abbrev pub as_configured : Result Configuration Refusal → Configured
+as_configured (Ok c) = record { code = ACCEPTED; configuration = c }
+as_configured (Err r) = record { code = code_number (code_of r); configuration = no_configuration }
 
 -- ── a grant or revocation alters one bit ──
 abbrev pub with_row : Configuration → ℕ → ℕ → Configuration

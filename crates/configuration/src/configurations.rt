@@ -1,24 +1,13 @@
 // The configuration: as an opening gives it, a role granted or revoked, and its part of number 15.
 ghost use Rattle.std.specs.Prelude.{◌≡◌, cond, ltb};
-ghost use Rattle.units.specs.Units.{survey_of};
-ghost use Rattle.configuration.specs.Configurations.{held, no_configuration, given_configuration, with_permissions, with_row, with_grant, without_grant, configuration_ok, gives_nothing};
+ghost use Rattle.units.specs.Units.{survey_of, as_survey};
+ghost use Rattle.configuration.specs.Configurations.{held, given_configuration, as_configured, with_permissions, with_row, with_grant, without_grant, configuration_ok, gives_nothing};
 
-use super::lists::{
-    count_ok, counts_ok, padded_rows, rows_ok, with_role, without_role, zero_permissions, zero_rows,
-};
-use super::{Configuration, Configured};
-use policy::codes;
+use super::Configuration;
+use super::lists::{count_ok, counts_ok, rows_ok, with_bit, without_bit};
+use policy::Refusal;
+use soda::all_are;
 use units::Survey;
-
-// A refused configuration: its number, and all zero.
-fn refused(code: u8) -> Configured
-    ensures { result ≡ record { code = code; configuration = no_configuration } }
-{
-    Configured {
-        code,
-        configuration: Configuration::BLANK,
-    }
-}
 
 impl Configuration {
     // All zero.
@@ -29,26 +18,26 @@ impl Configuration {
         roles: 0,
     };
 
-    // The counts and the rows of an opening: 0 and the configuration, without permissions, or 5 or 6 and all zero.
-    pub fn open(users: u8, roles: u8, rows: &[u16]) -> Configured
-        ensures { result ≡ given_configuration users roles rows.now }
+    // The counts and the rows of an opening: the configuration, without permissions, or refusal 5 or 6.
+    pub fn open(users: u8, roles: u8, rows: &[u16]) -> Result<Configuration, Refusal>
+        ensures { as_configured result ≡ given_configuration users roles rows.now }
     {
-        if !counts_ok(users as u32, roles as u32) {
-            return refused(codes::COUNTS);
+        let users = u32::from(users);
+        let roles = u32::from(roles);
+        if !counts_ok(users, roles) {
+            return Err(Refusal::Counts);
         }
-        if !rows_ok(users as u32, roles as u32, rows) {
-            return refused(codes::ROWS);
+        if !rows_ok(users, roles, rows) {
+            return Err(Refusal::Rows);
         }
-        let user_roles = padded_rows(rows);
-        Configured {
-            code: codes::ACCEPTED,
-            configuration: Configuration {
-                permissions: [0; 16],
-                user_roles,
-                users: users as u32,
-                roles: roles as u32,
-            },
-        }
+        let mut user_roles = [0u16; 16];
+        user_roles[..rows.len()].copy_from_slice(rows);
+        Ok(Configuration {
+            permissions: [0; 16],
+            user_roles,
+            users,
+            roles,
+        })
     }
 
     // With these permissions.
@@ -64,8 +53,7 @@ impl Configuration {
     pub fn held(self, user: u8) -> u16
         ensures { result ≡ held self user }
     {
-        let rows = self.user_roles;
-        if user < 16 { rows[user as usize] } else { 0 }
+        self.user_roles.get(usize::from(user)).copied().unwrap_or(0)
     }
 
     // With another row for a user; a user without a row alters nothing.
@@ -86,7 +74,7 @@ impl Configuration {
         if 16 <= role {
             return self;
         }
-        self.with_row(user, with_role(self.held(user), role))
+        self.with_row(user, with_bit(self.held(user), role))
     }
 
     // The user does not hold the role; else the same.
@@ -96,7 +84,7 @@ impl Configuration {
         if 16 <= role {
             return self;
         }
-        self.with_row(user, without_role(self.held(user), role))
+        self.with_row(user, without_bit(self.held(user), role))
     }
 
     // Whether the counts and the rows would be accepted, and unused rows are zero. The counts are tested one after the other: a
@@ -110,32 +98,26 @@ impl Configuration {
         if !count_ok(self.roles) {
             return false;
         }
-        let rows = self.user_roles;
-        let users = self.users as usize;
-        if !rows_ok(self.users, self.roles, &rows[..users]) {
-            return false;
-        }
-        if !zero_rows(rows, users) {
-            return false;
-        }
-        let permissions = self.permissions;
-        zero_permissions(permissions, self.roles as usize)
+        let (rows, unused_rows) = self.user_roles.split_at(self.users as usize);
+        let (_, unused_permissions) = self.permissions.split_at(self.roles as usize);
+        rows_ok(self.users, self.roles, rows)
+            && all_are(unused_rows, 0)
+            && all_are(unused_permissions, 0)
     }
 
     // Whether no role gives an action.
     pub fn gives_nothing(self) -> bool
         ensures { result ≡ gives_nothing self }
     {
-        let permissions = self.permissions;
-        zero_permissions(permissions, 0)
+        all_are(&self.permissions, 0)
     }
 
-    // What a user meets of a policy, and whether the policy is accepted with these counts.
-    pub fn survey(self, words: &[u32], user: u8) -> Survey
-        ensures { result ≡ survey_of self.users self.roles words.now user (held self user) }
+    // What a user meets of a policy that is accepted with these counts.
+    pub fn survey(self, words: &[u32], user: u8) -> Option<Survey>
+        ensures { as_survey result ≡ survey_of self.users self.roles words.now user (held self user) }
     {
         if !counts_ok(self.users, self.roles) {
-            return Survey::NONE;
+            return None;
         }
         units::survey_of(
             self.users as u8,

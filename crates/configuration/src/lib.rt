@@ -6,9 +6,10 @@ mod lists;
 mod permitted;
 
 // A configuration (document 004, Definition 1): the actions that each role gives, bit a for action a, the roles that each user holds, bit r
-// for role r, and the counts. Rows past the roles and past the users are zero.
+// for role r, and the counts. Rows past the roles and past the users are zero. Rows and counts stand side by side here because a monitor's
+// words lie in fixed memory in this layout, which the C interface shares.
 #[repr(C)]
-#[derive(Clone, Copy)]
+#[derive(Clone, Copy, Debug, PartialEq, Eq)]
 pub struct Configuration {
     pub permissions: [u64; 16],
     pub user_roles: [u16; 16],
@@ -16,16 +17,8 @@ pub struct Configuration {
     pub roles: u32,
 }
 
-// What an opening gives a configuration: its number, and the configuration; all zero if it is refused. The number stands last: in front
-// it moves the rows to odd places, and each copy of them then waits for the one before.
-#[derive(Clone, Copy)]
-pub struct Configured {
-    pub configuration: Configuration,
-    pub code: u8,
-}
-
 // A set of users, bit u for user u, and the place behind the last of them, 0 if there is none.
-#[derive(Clone, Copy)]
+#[derive(Clone, Copy, Debug, PartialEq, Eq)]
 pub struct Candidates {
     pub users: u16,
     pub behind: u8,

@@ -2,6 +2,7 @@
 ghost use Rattle.std.specs.Prelude.{◌≡◌, ◌<◌};
 ghost use Rattle.configuration.specs.Permitted.{with_candidate, is_permitted, permitted_users};
 
+use super::lists::with_bit;
 use super::{Candidates, Configuration};
 
 impl Candidates {
@@ -17,7 +18,7 @@ impl Candidates {
         ensures { result ≡ with_candidate self user }
     {
         Candidates {
-            users: self.users | (1 << user),
+            users: with_bit(self.users, user),
             behind: user + 1,
         }
     }
@@ -28,14 +29,8 @@ impl Configuration {
     fn permits(self, action: u8, everyone: bool, user: u8) -> bool
         ensures { result ≡ is_permitted self action everyone user }
     {
-        if self.users <= user as u32 {
-            return false;
-        }
-        if everyone {
-            return true;
-        }
-        let permissions = self.permissions;
-        workflow::authorized(permissions, self.held(user), action)
+        u32::from(user) < self.users
+            && (everyone || workflow::authorized(self.permissions, self.held(user), action))
     }
 
     // The users who are so.
@@ -43,12 +38,10 @@ impl Configuration {
         ensures { result ≡ permitted_users self action everyone }
     {
         let mut found = Candidates::NONE;
-        let mut user: u8 = 0;
-        while user < 16 {
+        for user in 0..16 {
             if self.permits(action, everyone, user) {
                 found = found.with(user);
             }
-            user += 1;
         }
         found
     }

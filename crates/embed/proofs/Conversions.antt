@@ -7,8 +7,7 @@ use borrow.Author.Tests.{eqb-true}
 use Rattle.soda.proofs.Bools.{by_test}
 use Rattle.policy.specs.Faults.{code_number}
 use Rattle.policy.proofs.Places.{code_has_number}
-use Rattle.text.specs.Reading.{converted}
-use Rattle.text.specs.declared.Converted.{Converted}
+use Rattle.text.specs.Reading.{Converted, converted}
 use Rattle.embed.specs.Lent.{place_left, conversion_code, length_left, LengthLent}
 
 conversion_number : (users roles : ℕ) (ws : List ℕ) (n k : ℕ) → code_number (conversion_code (converted users roles ws n k)) ≡ k
@@ -25,7 +24,3 @@ lent users roles ws n k r length place number newLength newPlace e l = (
   l.counted ∙ ap (λ (x : Converted). length_left x length) e,
   l.pointed ∙ ap (λ (x : Converted). place_left (conversion_code x) place) e,
 )
-
-pub known : (r s : Converted) (length place number newLength newPlace : ℕ) → r ≡ s → LengthLent s length place number newLength newPlace
-    → LengthLent r length place number newLength newPlace
-known r s length place number newLength newPlace e l = rw e l

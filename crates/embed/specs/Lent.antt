@@ -1,17 +1,12 @@
 -- What a call leaves in what it is lent besides: in a byte the place of a policy's fault (document 02, E2), in users the mask of who may
 -- act (E1), in a length how many words or bytes were written (E7).
 use Rattle.std.specs.Prelude.{◌≡◌, List, ℕ}
-use Rattle.policy.specs.Codes.{ACCEPTED}
+use Rattle.policy.specs.Codes.{ACCEPTED, Code, Fault, Plain}
 use Rattle.policy.specs.Faults.{code_number}
-use Rattle.policy.specs.declared.Code.{Code}
-use Rattle.policy.specs.declared.Code.TheVariants.{Fault, Plain}
-use Rattle.text.specs.declared.Converted.{Converted}
-use Rattle.text.specs.declared.Converted.TheVariants.{Written, Refused}
+use Rattle.text.specs.Reading.{Converted, Written, Refused}
 use Rattle.monitor.specs.Monitors.{Opening, opening}
 use Rattle.monitor.specs.declared.Monitor.{Monitor}
-use Rattle.monitor.specs.declared.Enabled.{Enabled}
-use Rattle.monitor.specs.declared.Enabled.TheVariants as enabled
-use Rattle.monitor.specs.Enabled.{enabled_number, enabled_of}
+use Rattle.monitor.specs.Enabled.{Enabled, Users, Refused as RefusedUsers, enabled_number, enabled_of}
 
 -- ── places ──
 -- 1 to 4 write the byte, and nothing else does
@@ -35,8 +30,8 @@ opening_lent o place = record {
 -- ── users ──
 -- a refusal leaves them alone
 abbrev pub users_left : Enabled → ℕ → ℕ
-users_left (enabled.Users mask) users = mask
-users_left (enabled.Refused k) users = users
+users_left (Users mask) users = mask
+users_left (RefusedUsers k) users = users
 
 -- the number, the lent users and the workspace
 pub record LentOutcome : Type 0 where

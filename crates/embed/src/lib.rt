@@ -3,22 +3,20 @@
 #![tactic(auto)]
 
 ghost use Rattle.std.specs.Prelude.{◌≡◌, length};
-ghost use Rattle.policy.specs.Faults.{code_number};
+ghost use Rattle.policy.specs.Answers.{answer_code, answer_number};
 ghost use Rattle.normal.specs.NormalForms.{normal_code, normal_answer, normal_out};
-ghost use Rattle.text.specs.Reading.{read_code, read_answer, read_out};
+ghost use Rattle.text.specs.Reading.{read_code, read_answer, read_out, as_converted};
 ghost use Rattle.text.specs.Writing.{write_code, write_answer, write_out};
 ghost use Rattle.monitor.specs.Monitors.{given, bare};
 ghost use Rattle.monitor.specs.Events.{outcome};
-ghost use Rattle.monitor.specs.Statuses.{status_of, status_number, letter};
-ghost use Rattle.multiset.specs.MultisetTest.{test_of, verdict_code, verdict_letter, test_workspace};
-ghost use Rattle.embed.specs.Bytes.{byte_of, status_byte, verdict_byte};
+ghost use Rattle.monitor.specs.Statuses.{status_of};
+ghost use Rattle.multiset.specs.MultisetTest.{test_of, test_workspace};
+ghost use Rattle.embed.specs.Bytes.{status_byte, verdict_byte};
 ghost use Rattle.embed.specs.Lent.{place_left, opening_lent, enabled_lent, conversion_code, length_left, LengthLent};
 ghost use Rattle.embed.specs.Versions.{version, layout};
 
-use monitor::{Enabled, Monitor, Status};
-use multiset::Verdict;
-use policy::Code;
-use text::Converted;
+use monitor::Monitor;
+use policy::{ACCEPTED, Refusal, number_of};
 
 // The version, 0.8.0: major, minor and patch number, a byte each.
 const VERSION: u32 = 0x000800;
@@ -26,47 +24,17 @@ const VERSION: u32 = 0x000800;
 // The number of the layout of what is lent: another one whenever a field of it comes, goes, moves or means something else.
 const LAYOUT: u32 = 4;
 
-// A status as one byte.
-fn status_byte(status: Status) -> u8
-    ensures { result ≡ byte_of (status_number status) (letter status) }
+// The number of an answer; the place of a policy's fault goes to the lent byte, which any other answer leaves as it was.
+fn lend<T: Copy>(answer: Result<T, Refusal>, place: &mut u8) -> u8
+    ensures number { result ≡ answer_number answer }
+    ensures place_after { place.new ≡ place_left (answer_code answer) place.old }
 {
-    match status {
-        Status::Closed => b'd',
-        Status::Complete => b'c',
-        Status::Open => b'o',
-        Status::Refused(code) => code,
-    }
-}
-
-// A code's number; the place of a policy's fault goes to the lent byte, which another code leaves as it was.
-fn lend(code: Code, place: &mut u8) -> u8
-    ensures { (result ≡ code_number code) × (place.new ≡ place_left code place.old) }
-{
-    match code {
-        Code::Fault { number, place: at } => {
+    if let Err(refusal) = answer {
+        if let Some(at) = refusal.place() {
             *place = at;
-            number
         }
-        Code::Plain(number) => number,
     }
-}
-
-// A verdict as one byte, and the place of a policy's fault.
-fn verdict_byte(verdict: Verdict, place: &mut u8) -> u8
-    ensures { (result ≡ byte_of (code_number (verdict_code verdict)) (verdict_letter verdict)) × (place.new ≡ place_left (verdict_code verdict) place.old) }
-{
-    match verdict {
-        Verdict::Yes => b'y',
-        Verdict::No => b'n',
-        Verdict::Refused(code) => lend(code, place),
-    }
-}
-
-// The status of a monitor by value, as one byte.
-fn status_of(monitor: Monitor) -> u8
-    ensures { result ≡ status_byte (status_of monitor) }
-{
-    status_byte(monitor.status())
+    number_of(answer)
 }
 
 // Opens a monitor where the caller keeps it, with permissions and a workflow if they are not empty; a refusal leaves the blank one there. A
@@ -85,9 +53,8 @@ pub extern "C" fn oskhrein_open(
     ensures { record { code = result; place = place.new; monitor = monitor.new } ≡ opening_lent (given users roles words.now rows.now permissions.now workflow.now) place.old }
 {
     let opened = Monitor::open(users, roles, words, rows, permissions, workflow);
-    *monitor = opened.monitor;
-    let code = opened.code;
-    lend(code, place)
+    *monitor = opened.unwrap_or(Monitor::BLANK);
+    lend(opened, place)
 }
 
 // One event (document 01: the thin call on a lent sheet): alters the monitor where the caller keeps it, with the answers of the call by
@@ -96,10 +63,13 @@ pub extern "C" fn oskhrein_open(
 pub extern "C" fn oskhrein_event(monitor: &mut Monitor, word: u32, workspace: &mut [u32]) -> u8
     ensures { record { code = result; monitor = monitor.new; workspace = workspace.new } ≡ outcome monitor.old word workspace.old }
 {
-    let current = *monitor;
-    let answer = current.event(word, workspace);
-    *monitor = answer.monitor;
-    answer.code
+    match monitor.event(word, workspace) {
+        Ok(next) => {
+            *monitor = next;
+            ACCEPTED
+        }
+        Err(refusal) => refusal.number(),
+    }
 }
 
 // The status of a monitor, which stays as it is.
@@ -107,27 +77,9 @@ pub extern "C" fn oskhrein_event(monitor: &mut Monitor, word: u32, workspace: &m
 pub extern "C" fn oskhrein_status(monitor: &Monitor) -> u8
     ensures { result ≡ status_byte (status_of monitor.now) }
 {
-    let current = *monitor;
-    status_of(current)
-}
-
-// An answer about users: the number, and the lent users as they are to be left.
-#[derive(Clone, Copy)]
-struct UsersAnswer {
-    code: u8,
-    users: u16,
-}
-
-// Who may act on a monitor by value; a refusal leaves the users as they were.
-fn enabled_of(monitor: Monitor, action: u8, users: u16, workspace: &mut [u32]) -> UsersAnswer
-    ensures { record { code = result.code; users = result.users; workspace = workspace.new } ≡ enabled_lent monitor action users workspace.old }
-{
-    match monitor.enabled(action, workspace) {
-        Enabled::Users(mask) => UsersAnswer {
-            code: 0,
-            users: mask,
-        },
-        Enabled::Refused(code) => UsersAnswer { code, users },
+    match monitor.status() {
+        Ok(status) => u8::from(status),
+        Err(refusal) => refusal.number(),
     }
 }
 
@@ -142,11 +94,13 @@ pub extern "C" fn oskhrein_enabled(
 ) -> u8
     ensures { record { code = result; users = users.new; workspace = workspace.new } ≡ enabled_lent monitor.now action users.old workspace.old }
 {
-    let current = *monitor;
-    let before = *users;
-    let answer = enabled_of(current, action, before, workspace);
-    *users = answer.users;
-    answer.code
+    match monitor.enabled(action, workspace) {
+        Ok(mask) => {
+            *users = mask;
+            ACCEPTED
+        }
+        Err(refusal) => refusal.number(),
+    }
 }
 
 // Whether the multiset of users, each as often as its count says, satisfies the policy.
@@ -162,8 +116,11 @@ pub extern "C" fn oskhrein_satisfies(
 ) -> u8
     ensures { (result ≡ verdict_byte (test_of (bare users roles words.now rows.now) counts.now (length workspace.old))) × (place.new ≡ place_left (test_of (bare users roles words.now rows.now) counts.now (length workspace.old)).code place.old) × (workspace.new ≡ test_workspace (bare users roles words.now rows.now) counts.now workspace.old) }
 {
-    let verdict = multiset::satisfies(users, roles, words, rows, *counts, workspace);
-    verdict_byte(verdict, place)
+    match multiset::satisfies(users, roles, words, rows, *counts, workspace) {
+        Ok(true) => b'y',
+        Ok(false) => b'n',
+        refused => lend(refused, place),
+    }
 }
 
 // The normal form of a policy, at the start of an output that the caller keeps.
@@ -177,21 +134,18 @@ pub extern "C" fn oskhrein_normal_form(
 ) -> u8
     ensures { (result ≡ normal_code users roles words.now (length out.old)) × (place.new ≡ place_left (normal_answer users roles words.now (length out.old)) place.old) × (out.new ≡ normal_out users roles words.now out.old) }
 {
-    let code = normal::normal_form(users, roles, words, out);
-    lend(code, place)
+    let answer = normal::normal_form(users, roles, words, out);
+    lend(answer, place)
 }
 
 // A conversion's number. How many words or bytes were written, or the place of a policy's fault, goes to what is lent for it.
-fn lend_length(converted: Converted, written: &mut usize, place: &mut u8) -> u8
-    ensures { LengthLent converted written.old place.old result written.new place.new }
+fn lend_length(converted: Result<usize, Refusal>, written: &mut usize, place: &mut u8) -> u8
+    ensures { LengthLent (as_converted converted) written.old place.old result written.new place.new }
 {
-    match converted {
-        Converted::Written(n) => {
-            *written = n;
-            0
-        }
-        Converted::Refused(code) => lend(code, place),
+    if let Ok(length) = converted {
+        *written = length;
     }
+    lend(converted, place)
 }
 
 // A policy's text read: its words, at the start of an output that the caller keeps, and how many they are.

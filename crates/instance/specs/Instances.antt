@@ -1,6 +1,6 @@
 -- The instance: a policy, a workflow and its present state, the actions taken under them, the closed mark and the letter of the status, over
 -- a configuration.
-use Rattle.std.specs.Prelude.{Bool, not, ◌&&◌, ◌||◌, cond, List, ℕ, ◌+◌, leb, ltb, eqb, length, take, drop, set as put, replicate}
+use Rattle.std.specs.Prelude.{Bool, true, false, not, ◌&&◌, ◌||◌, cond, List, ℕ, ◌+◌, leb, ltb, eqb, length, take, drop, set as put, replicate, Option, Some, None}
 use Rattle.std.specs.Int.Bits.{bit_and}
 use Rattle.soda.specs.Lists.{all, padded}
 use Rattle.soda.specs.Terms.{Term}
@@ -13,7 +13,6 @@ use Rattle.workflow.specs.declared.Workflow.{Workflow}
 use Rattle.workflow.specs.Workflows.{no_workflow, is_given, workflow_ok}
 use Rattle.configuration.specs.declared.Configuration.{Configuration}
 use Rattle.instance.specs.declared.Instance.{Instance}
-use Rattle.instance.specs.declared.Check.{Check}
 use Rattle.configuration.specs.Configurations.{held, is_zero}
 use Rattle.instance.specs.Letters.{letter_d, letter_c, letter_o}
 
@@ -133,8 +132,17 @@ unfoldable pub instance_ok : Configuration → Instance → Bool
 instance_ok c i = is_readable c i && (is_taken_ok c i && (is_tidy i && (is_placed c i && is_lettered i)))
 
 -- whether it is so, and then what user u meets
+pub record Check : Type 0 where
+  pub well_formed : Bool
+  pub met : ℕ
+
 abbrev pub check_in : Bool → ℕ → Check
 check_in ok met = record { well_formed = ok; met = cond ok met 0 }
 
 abbrev pub check_of : Configuration → Instance → ℕ → Check
 check_of c i u = check_in (instance_ok c i) (met_of (policy_of i) u (held c u))
+
+-- what `check` of src answers: nothing for an instance that is not so
+abbrev pub as_check : Option ℕ → Check
+as_check (Some met) = record { well_formed = true; met = met }
+as_check None = record { well_formed = false; met = 0 }

@@ -1,13 +1,12 @@
 // The instance: as it starts under a policy, an action taken, its status worked out, a close, and its part of number 15.
-ghost use Rattle.std.specs.Prelude.{◌≡◌, ◌&&◌, cond, ◌≤◌, leb, ltb, length, take, drop};
+ghost use Rattle.std.specs.Prelude.{◌≡◌, ◌&&◌, cond, ◌≤◌, leb, ltb, length};
 ghost use Rattle.soda.specs.Lists.{all};
 ghost use Rattle.instance.specs.Letters.{open_letter};
-ghost use Rattle.instance.specs.Instances.{taken_of, is_closed, no_instance, instance_of, with_action, with_status, as_closed, is_idle, action_ok, is_tidy, is_placed, is_lettered, check_of};
+ghost use Rattle.instance.specs.Instances.{taken_of, is_closed, no_instance, instance_of, with_action, with_status, as_closed, action_ok, is_tidy, is_placed, is_lettered, as_check, check_of};
 
-use super::lists::{padded_words, zero_words};
-use super::{Check, Instance, letters};
+use super::{Instance, Status};
 use configuration::Configuration;
-use soda::Action;
+use soda::{Action, all_are};
 use workflow::Workflow;
 
 // The mark of an instance that is open, and the one that a close sets; every other value is closed too.
@@ -15,62 +14,18 @@ const OPEN: u8 = 0;
 
 const CLOSED: u8 = 1;
 
-impl Check {
-    // That of an instance which is not well formed.
-    pub const FAILED: Self = Check {
-        well_formed: false,
-        met: 0,
-    };
-}
-
-// Whether an unused place is all zero.
-fn is_idle(a: Action) -> bool
-    ensures { result ≡ is_idle a }
-{
-    (a.user == 0) & (a.met == 0)
-}
-
 // Whether a taken action is by a declared user, and has bits at words that begin unit terms only.
 fn action_ok(users: u32, units: u32, a: Action) -> bool
     ensures { result ≡ action_ok users units a }
 {
-    let met = a.met;
-    (a.user < users) & (met & units == met)
-}
-
-// Whether each taken action is so.
-fn actions_ok(users: u32, units: u32, actions: [Action; 12], taken: usize) -> bool
-    requires { taken ≤ 12 }
-    ensures { result ≡ all (action_ok users units) (take taken actions) }
-{
-    let mut i = 0;
-    while i < taken {
-        if !action_ok(users, units, actions[i]) {
-            return false;
-        }
-        i += 1;
-    }
-    true
-}
-
-// Whether the places from one on are unused.
-fn idle_actions(actions: [Action; 12], from: usize) -> bool
-    ensures { result ≡ all is_idle (drop from actions) }
-{
-    let mut idle = true;
-    let mut i = from;
-    while i < 12 {
-        idle = idle & is_idle(actions[i]);
-        i += 1;
-    }
-    idle
+    (a.user < users) & (a.met & units == a.met)
 }
 
 impl Instance {
     // All zero.
     pub const BLANK: Self = Instance {
         policy: [0; 31],
-        actions: [Action { user: 0, met: 0 }; 12],
+        actions: [Action::IDLE; 12],
         workflow: Workflow::BLANK,
         words: 0,
         taken: 0,
@@ -87,15 +42,16 @@ impl Instance {
         if 31 < words.len() {
             return Instance::BLANK;
         }
-        let policy = padded_words(words);
+        let mut policy = [0u32; 31];
+        policy[..words.len()].copy_from_slice(words);
         Instance {
             policy,
-            actions: [Action { user: 0, met: 0 }; 12],
+            actions: [Action::IDLE; 12],
             workflow,
             words: words.len() as u8,
             taken: 0,
             closed: OPEN,
-            status: letters::OPEN,
+            status: u8::from(Status::Open),
             state: 0,
         }
     }
@@ -127,11 +83,12 @@ impl Instance {
         ensures { result ≡ with_status self (open_letter satisfied) }
     {
         let mut next = self;
-        next.status = if satisfied {
-            letters::COMPLETE
+        let status = if satisfied {
+            Status::Complete
         } else {
-            letters::OPEN
+            Status::Open
         };
+        next.status = u8::from(status);
         next
     }
 
@@ -141,7 +98,7 @@ impl Instance {
     {
         let mut next = self;
         next.closed = CLOSED;
-        next.status = letters::CLOSED;
+        next.status = u8::from(Status::Closed);
         next
     }
 
@@ -149,82 +106,59 @@ impl Instance {
     fn is_taken_ok(self, users: u32, units: u32) -> bool
         ensures { result ≡ (leb self.taken 12 && all (action_ok users units) (taken_of self)) }
     {
-        if 12 < self.taken {
-            return false;
-        }
-        let actions = self.actions;
-        actions_ok(users, units, actions, self.taken as usize)
+        let taken = self.taken as usize;
+        taken <= 12
+            && self.actions[..taken]
+                .iter()
+                .all(|&action| action_ok(users, units, action))
     }
 
     // Whether every unused policy word and place is zero.
     fn is_tidy(self) -> bool
+        requires { (self.words ≤ 31) × (self.taken ≤ 12) }
         ensures { result ≡ is_tidy self }
     {
-        let policy = self.policy;
-        if !zero_words(policy, self.words as usize) {
-            return false;
-        }
-        let actions = self.actions;
-        idle_actions(actions, self.taken as usize)
+        let (_, words) = self.policy.split_at(self.words as usize);
+        let (_, places) = self.actions.split_at(self.taken as usize);
+        all_are(words, 0) && all_are(places, Action::IDLE)
     }
 
     // Whether the workflow is well formed and in a state that it has; without a workflow, its state and the permissions are zero.
     fn is_placed(self, configuration: Configuration) -> bool
         ensures { result ≡ is_placed configuration self }
     {
-        let workflow = self.workflow;
-        if !workflow.is_well_formed() {
+        if !self.workflow.is_well_formed() {
             return false;
         }
-        if workflow.is_given() {
-            return self.state < workflow.states as u32;
+        if self.workflow.is_given() {
+            return self.state < u32::from(self.workflow.states);
         }
-        if self.state != 0 {
-            return false;
-        }
-        configuration.gives_nothing()
+        self.state == 0 && configuration.gives_nothing()
     }
 
     // Whether the letter goes with the mark: closed with the mark alone, complete with an action alone.
     fn is_lettered(self) -> bool
         ensures { result ≡ is_lettered self }
     {
-        let status = self.status;
-        if self.is_closed() {
-            return status == letters::CLOSED;
+        match Status::try_from(self.status) {
+            Ok(Status::Closed) => self.is_closed(),
+            Ok(Status::Complete) => !self.is_closed() & (self.taken != 0),
+            Ok(Status::Open) => !self.is_closed(),
+            Err(_) => false,
         }
-        (status == letters::OPEN) | ((status == letters::COMPLETE) & (self.taken != 0))
     }
 
-    // Whether the policy would be accepted, the taken actions, the workflow and the letter are as they must be, and what is unused is zero; and
-    // what a user meets.
-    pub fn check(self, configuration: Configuration, user: u8) -> Check
-        ensures { result ≡ check_of configuration self user }
+    // What a user meets, where the policy would be accepted, the taken actions, the workflow and the letter are as they must be, and what is
+    // unused is zero.
+    pub fn check(self, configuration: Configuration, user: u8) -> Option<u32>
+        ensures { as_check result ≡ check_of configuration self user }
     {
-        let words = self.words as usize;
-        if 31 < words {
-            return Check::FAILED;
-        }
-        let policy = self.policy;
-        let survey = configuration.survey(&policy[..words], user);
-        if !survey.accepted {
-            return Check::FAILED;
-        }
-        if !self.is_taken_ok(configuration.users, survey.units) {
-            return Check::FAILED;
-        }
-        if !self.is_tidy() {
-            return Check::FAILED;
-        }
-        if !self.is_placed(configuration) {
-            return Check::FAILED;
-        }
-        if !self.is_lettered() {
-            return Check::FAILED;
-        }
-        Check {
-            well_formed: true,
-            met: survey.met,
-        }
+        let words = self.policy.get(..self.words as usize)?;
+        let survey = configuration.survey(words, user)?;
+        let formed = self.is_taken_ok(configuration.users, survey.units)
+            && self.is_tidy()
+            && self.is_placed(configuration)
+            && self.is_lettered();
+        formed.then_some(survey.met)
     }
 }

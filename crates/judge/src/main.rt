@@ -1,7 +1,8 @@
-// The judge (document 01): reads a case file from standard input and prints its text.
+// The judge (document 01): reads a case file from standard input and prints its text. Reading and writing are the two functions of `io` alone,
+// which the tests replace where they build the judge as plain Rust.
 #![tactic(auto)]
 
-use casefile::{LIMIT, Printed};
+use casefile::LIMIT;
 
 const STDIN_FILENO: i32 = 0;
 
@@ -12,7 +13,7 @@ fn main() {
     let mut bytes = [0u8; 4097];
     let read = io::read_full(STDIN_FILENO, &mut bytes);
     let mut out = [0u8; LIMIT];
-    let Printed::Written(length) = casefile::print_case(&bytes[..read], &mut out) else {
+    let Some(length) = casefile::print_case(&bytes[..read], &mut out) else {
         return;
     };
     io::write_all(STDOUT_FILENO, &out[..length]);

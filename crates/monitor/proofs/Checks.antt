@@ -1,28 +1,69 @@
--- What is known of a monitor that is not well formed, and of an event's user.
-use mathlib.Core.Path.{◌≡◌, sym, ap, subst, ◌∙◌}
-use mathlib.Core.Bool.{Bool, false, So}
-use Prim.Native.Nat.{ℕ}
-use Rattle.soda.proofs.Bools.{never}
-use Rattle.configuration.specs.declared.Configuration.{Configuration}
-use Rattle.instance.specs.declared.Instance.{Instance}
-use Rattle.instance.specs.declared.Check.{Check}
-use Rattle.instance.specs.Instances.{instance_ok, check_of}
-use Rattle.monitor.specs.declared.Monitor.{Monitor}
-use Rattle.monitor.specs.declared.Event.{Event}
-use Rattle.monitor.specs.declared.Event.TheVariants.{Acts, Grants, Revokes, Closes, Malformed}
-use Rattle.monitor.specs.Private.{Meets, Checked, actor, Noting}
+-- What a refusal's number says, and what is known of an event's user.
+use Rattle.std.specs.Prelude.{Option, Some, None, Err, ok_or}
+use Rattle.std.proofs.Common.{◌≡◌, ◌≢◌, ℕ, Bool, false, not, ◌&&◌, eqb, refl, sym, subst, ◌∙◌, true≢false, rules}
+use Rattle.std.proofs.Math.Bool.{So}
+use Rattle.soda.proofs.Bools.{never, and_split}
+use Rattle.policy.specs.Codes.{ACCEPTED, Code, Fault, Plain}
+use Rattle.policy.specs.Faults.{is_fault, code_number}
+use Rattle.policy.specs.Answers.{code_of}
+use Rattle.policy.specs.declared.refusal.Refusal.{Refusal}
+use Rattle.policy.specs.declared.refusal.Refusal.TheVariants.{WordCount, Word, Term, Unit, Opening, Text, Counts, Rows, Workflow, Malformed, Full, NotPossible, Closed, NotSatisfied, NotAuthorized, NoTransition, Workspace, Output, Case, Monitor}
+use Rattle.monitor.specs.declared.Monitor.{Monitor as Sheet}
+use Rattle.monitor.specs.Events.{Event, Acts, Grants, Revokes, Closes, Malformed as BadWord}
+use Rattle.monitor.specs.Private.{Meets, actor, Noting}
 
-pub not_well_formed : (c : Configuration) (i : Instance) (u : ℕ) (ok : Bool) → ok ≡ false → Checked c i u ok (record { well_formed = false; met = 0 })
-not_well_formed c i u ok e = record { is_ok = sym e; meets = λ s. never (subst So e s) }
+-- a code that a refusal may have: of a policy's fault, with its place, or another number than that of acceptance
+abbrev is_refusal : Code → Bool
+is_refusal (Fault k p) = is_fault k
+is_refusal (Plain k) = not (is_fault k) && not (eqb k ACCEPTED)
 
--- what the instance's check says, as a record
-pub checked : (c : Configuration) (i : Instance) (u : ℕ) (r : Check) → r ≡ check_of c i u → Checked c i u (instance_ok c i) r
-checked c i u r e = record { is_ok = ap (λ (k : Check). k.well_formed) e; meets = λ s. ap (λ (k : Check). k.met) e ∙ rw s }
+refuses : (r : Refusal) → So (is_refusal (code_of r))
+refuses WordCount = refl
+refuses (Word p) = refl
+refuses (Term p) = refl
+refuses (Unit p) = refl
+refuses Opening = refl
+refuses Text = refl
+refuses Counts = refl
+refuses Rows = refl
+refuses Workflow = refl
+refuses Malformed = refl
+refuses Full = refl
+refuses NotPossible = refl
+refuses Closed = refl
+refuses NotSatisfied = refl
+refuses NotAuthorized = refl
+refuses NoTransition = refl
+refuses Workspace = refl
+refuses Output = refl
+refuses Case = refl
+refuses Monitor = refl
+
+-- no refusal's number is that of acceptance
+pub refusal-number : (r : Refusal) → code_number (code_of r) ≢ 0
+refusal-number r = go (code_of r) (refuses r)
+  where
+    go : (c : Code) → So (is_refusal c) → code_number c ≢ 0
+    go (Fault k p) h z = never (subst (λ n. So (is_fault n)) z h)
+    go (Plain k) h z = never (subst (λ n. So (not (eqb n ACCEPTED))) z (and_split (not (is_fault k)) (not (eqb k ACCEPTED)) h).1)
+
+-- one whose number is no policy's fault has no place
+pub refusal_plain : (r : Refusal) → is_fault (code_number (code_of r)) ≡ false → code_of r ≡ Plain (code_number (code_of r))
+refusal_plain r = go (code_of r) (refuses r)
+  where
+    go : (c : Code) → So (is_refusal c) → is_fault (code_number c) ≡ false → c ≡ Plain (code_number c)
+    go (Fault k p) h f = absurd (true≢false (sym h ∙ f))
+    go (Plain k) h f = refl
+
+-- what is refused where a value is missing
+pub refused_missing : {T : Type 0} (o : Option T) (e r : Refusal) → ok_or o e ≡ Err r → (o ≡ None) × (r ≡ e)
+refused_missing None e r q = (refl, search rules)
+refused_missing (Some x) e r q = absurd (search rules)
 
 -- what the user who acts meets is what is noted of an action
-pub noting : (m : Monitor) (e : Event) (met : ℕ) → Meets m.configuration m.instance (actor e) met → Noting m e met
+pub noting : (m : Sheet) (e : Event) (met : ℕ) → Meets m.configuration m.instance (actor e) met → Noting m e met
 noting m (Acts u a) met h = h
 noting m (Grants u r) met h = tt
 noting m (Revokes u r) met h = tt
 noting m Closes met h = tt
-noting m Malformed met h = tt
+noting m BadWord met h = tt

@@ -15,12 +15,10 @@ use Rattle.soda.proofs.Bits.{bit-set_bit, bit-clear_bit}
 use Rattle.policy.proofs.Refusals.{clear}
 use Rattle.configuration.specs.declared.Configuration.{Configuration}
 use Rattle.instance.specs.declared.Instance.{Instance}
-use Rattle.monitor.specs.declared.Event.{Event}
-use Rattle.monitor.specs.declared.Event.TheVariants.{Acts, Grants, Revokes, Closes, Malformed}
 use Rattle.configuration.specs.Configurations.{held, with_row, with_grant, without_grant}
 use Rattle.instance.specs.Instances.{no_action, noted_for, with_action, with_status, as_closed}
 use Rattle.instance.specs.Steps.{leads_to, state_of}
-use Rattle.monitor.specs.Events.{is_short, event_in, own_refusals, applied, event_code, outcome}
+use Rattle.monitor.specs.Events.{Event, Acts, Grants, Revokes, Closes, Malformed, is_short, event_in, own_refusals, applied, event_code, outcome}
 use Rattle.monitor.specs.Laws.{Passed}
 use Rattle.monitor.specs.Effects.{ActionAlone, BitAlone, MarkAlone, OwnPart, AcceptedAltersItsPart, HeldAltersNothing, RefusalAltersNothing}
 use Rattle.monitor.specs.Private.{Entered}

@@ -29,12 +29,9 @@ use Rattle.instance.specs.Candidates.{is_candidate}
 use Rattle.configuration.proofs.Formed.{users_most}
 use Rattle.configuration.proofs.Gathering.{number_short}
 use Rattle.monitor.specs.declared.Monitor.{Monitor}
-use Rattle.monitor.specs.declared.Event.{Event}
-use Rattle.monitor.specs.declared.Event.TheVariants.{Acts, Malformed}
-use Rattle.monitor.specs.declared.Enabled.TheVariants.{Users, Refused}
 use Rattle.monitor.specs.Monitors.{well_formed, admission}
-use Rattle.monitor.specs.Events.{read_event, is_short, event_in, is_malformed, tried, event_code, entry, workspace_after, Outcome, outcome}
-use Rattle.monitor.specs.Enabled.{action_word, may_act, enabled_mask, gets_trial, behind_trials, left_by, enabled_of, BitIsAction, NoOtherBit, ClosedOrFullIsNobody, RefusalKeepsMask}
+use Rattle.monitor.specs.Events.{Event, Acts, Malformed, read_event, is_short, event_in, is_malformed, tried, event_code, entry, workspace_after, Outcome, outcome}
+use Rattle.monitor.specs.Enabled.{Users, Refused, action_word, may_act, enabled_mask, gets_trial, behind_trials, left_by, enabled_of, BitIsAction, NoOtherBit, ClosedOrFullIsNobody, RefusalKeepsMask}
 use Rattle.monitor.specs.Private.{each_tried, monitor_outcome}
 use Rattle.monitor.proofs.Formed.{formed}
 use Rattle.monitor.proofs.Order.{admits, accepted_has_passed, not_admitted, not_entered, performed, close_asks_no_workspace}

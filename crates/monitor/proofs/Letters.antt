@@ -16,10 +16,8 @@ use Rattle.instance.specs.Letters.{letter_d, open_letter}
 use Rattle.instance.specs.Instances.{term, noted_for}
 use Rattle.instance.specs.Steps.{leads_to, state_of}
 use Rattle.instance.proofs.Formed.{taken_more}
-use Rattle.monitor.specs.declared.Event.{Event}
-use Rattle.monitor.specs.declared.Event.TheVariants.{Acts, Grants, Revokes, Closes, Malformed}
 use Rattle.monitor.specs.Monitors.{fresh}
-use Rattle.monitor.specs.Events.{is_short, event_in, own_refusals, advanced, outcome}
+use Rattle.monitor.specs.Events.{Event, Acts, Grants, Revokes, Closes, Malformed, is_short, event_in, own_refusals, advanced, outcome}
 use Rattle.monitor.specs.Statuses.{letter_of}
 use Rattle.monitor.specs.Laws.{Passed, OpenedHasLetter, EventKeepsLetter}
 use Rattle.monitor.proofs.Order.{accepted_has_passed}

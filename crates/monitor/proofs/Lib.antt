@@ -9,6 +9,7 @@ pub mod Order
 pub mod Preserved
 -- The workspace: when it is filled.
 pub mod Fillable
+pub mod Evaluating
 -- Who may act.
 pub mod Candidates
 pub mod Enabling

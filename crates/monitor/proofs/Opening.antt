@@ -12,17 +12,20 @@ use Rattle.soda.proofs.Bools.{by_test}
 use Rattle.policy.specs.Codes.{ROWS, WORKFLOW}
 use Rattle.policy.specs.Refusals.{code, Refusals, Clear}
 use Rattle.policy.specs.Words.{decode}
-use Rattle.policy.specs.Faults.{code_at}
+use Rattle.policy.specs.Faults.{code_at, code_number}
+use Rattle.policy.specs.Answers.{code_of}
+use Rattle.policy.specs.declared.refusal.Refusal.{Refusal}
 use Rattle.policy.specs.Reading.{count_ok, refusals, units_of, read_policy}
-use Rattle.policy.specs.declared.Code.{Code}
-use Rattle.policy.specs.declared.Code.TheVariants.{Plain}
-use Rattle.policy.specs.declared.PolicyRead.{PolicyRead}
-use Rattle.policy.specs.declared.PolicyRead.TheVariants.{Accepted, Refused}
+use Rattle.policy.specs.Codes.{Code}
+use Rattle.policy.specs.Codes.{Plain}
+use Rattle.policy.specs.Reading.{PolicyRead}
+use Rattle.policy.specs.Reading.{Accepted, Refused}
 use Rattle.policy.proofs.Refusals.{clear, code_front, code-behind}
 use Rattle.configuration.specs.Configurations.{rows_ok, row_refusals, configuration_of, given_configuration}
 use Rattle.workflow.specs.Reading.{secure_ok}
 use Rattle.monitor.specs.Monitors.{Opening, code_in, blank, secure_refusals, open_refusals, open_code, fresh, opened, opening}
 use Rattle.monitor.specs.Laws.{OpenedIsFresh}
+use Rattle.monitor.proofs.Checks.{refusal-number, refusal_plain}
 
 -- what an accepted read says
 pub record IsRead (users roles : ℕ) (words : List ℕ) (n : ℕ) : Type 0 where
@@ -106,8 +109,14 @@ module _ (o : Opening) where
       let counts = not-false (count_ok o.users && count_ok o.roles) h.0 in
       by_test rows-test (λ p. rw (counts, p)) (λ p. rw (counts, p))
 
-  pub code-rows : Clear policy-refusals → (given_configuration o.users o.roles o.rows).code ≢ 0 → (given_configuration o.users o.roles o.rows).code ≡ open_code o
-  code-rows h ne = by_test rows-test (λ p. absurd (ne (configuration_code h ∙ rw p))) (λ p. configuration_code h ∙ rw p (sym (code-accepted h ∙ rw p)))
+  -- a refusal by its number is 6, the opening's
+  pub configuration_refused : Clear policy-refusals → (r : Refusal) → code_number (code_of r) ≡ (given_configuration o.users o.roles o.rows).code
+      → (code_of r ≡ code_in o (open_code o)) × (open_code o ≢ 0)
+  configuration_refused h r k = by_test rows-test (λ p. absurd (refusal-number r (k ∙ configuration_code h ∙ rw p)))
+      (λ p.
+      let six : code_number (code_of r) ≡ ROWS = k ∙ configuration_code h ∙ rw p in
+      let n : open_code o ≡ ROWS = code-accepted h ∙ rw p in
+      (refusal_plain r (rw six) ∙ ap Plain (six ∙ sym n) ∙ sym (code_plain h), λ z. absurd (omega (arith, sym n ∙ z))))
 
   pub code-secure : Clear policy-refusals → (given_configuration o.users o.roles o.rows).code ≡ 0 → open_code o ≡ cond secure-test 0 WORKFLOW
   code-secure h z = by_test rows-test (λ p. code-accepted h ∙ rw p) (λ p. let e : ROWS ≡ 0 = sym (configuration_code h ∙ rw p) ∙ z in absurd (omega arith))

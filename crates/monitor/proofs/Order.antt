@@ -1,4 +1,5 @@
 -- An event's checks in order: 12 or 15 decides, then 10 or 7, then the event's own refusals.
+use Rattle.std.specs.Prelude.{Some}
 use mathlib.Core.Path.{◌≡◌, refl, sym, subst, ap, ◌∙◌}
 use mathlib.Core.Logic.{◌≢◌}
 use mathlib.Core.Bool.{Bool, true, false, So, not, cond, true≢false}
@@ -11,23 +12,19 @@ use borrow.Author.Tests.{le-leb, lt-leb, ne_eqb, not-true, not-false}
 use Rattle.soda.specs.Lists.{all}
 use Rattle.soda.specs.Tables.{possible}
 use Rattle.soda.proofs.Bools.{never, and_split, eq_so}
-use Rattle.policy.specs.Codes.{ACCEPTED, FULL, NOT_POSSIBLE, NOT_SATISFIED, WORKSPACE}
+use Rattle.policy.specs.Codes.{ACCEPTED, FULL, NOT_POSSIBLE, WORKSPACE}
 use Rattle.policy.specs.Refusals.{code, Refusals, numbered, Clear}
 use Rattle.policy.proofs.Refusals.{clear_code, code_front, code-behind}
 use Rattle.configuration.specs.declared.Configuration.{Configuration}
 use Rattle.instance.specs.declared.Instance.{Instance}
 use Rattle.monitor.specs.declared.Monitor.{Monitor}
-use Rattle.monitor.specs.declared.Event.{Event}
-use Rattle.monitor.specs.declared.Event.TheVariants.{Acts, Grants, Revokes, Closes, Malformed}
 use Rattle.workspace.specs.Workspace.{filled}
-use Rattle.instance.specs.Letters.{letter_c}
-use Rattle.instance.specs.Instances.{term, as_closed, is_closed}
-use Rattle.soda.specs.declared.Successor.TheVariants.{To}
-use Rattle.instance.specs.Steps.{is_authorized, leads_to, step_refusals, is_final}
+use Rattle.instance.specs.Instances.{term, is_closed}
+use Rattle.instance.specs.Steps.{is_authorized, leads_to, step_refusals}
 use Rattle.monitor.specs.Monitors.{well_formed, monitor_refusals, admission}
-use Rattle.monitor.specs.Events.{is_short, event_in, is_malformed, entry, tried, trial_refusals, own_refusals, event_refusals, configured, taking, advanced, applied, workspace_after, event_code, Outcome, outcome}
+use Rattle.monitor.specs.Events.{Event, Acts, Grants, Revokes, Closes, Malformed, is_short, event_in, is_malformed, entry, tried, trial_refusals, own_refusals, event_refusals, configured, taking, advanced, applied, workspace_after, event_code, Outcome, outcome}
 use Rattle.monitor.specs.Laws.{WellFormedIsAdmitted, AcceptedHasPassed, CloseAsksNoWorkspace}
-use Rattle.monitor.specs.Private.{CloseGives, InstanceOutcome, own_outcome, monitor_outcome}
+use Rattle.monitor.specs.Private.{InstanceOutcome, own_outcome, monitor_outcome}
 use Rattle.monitor.proofs.Reading.{of_kind_four}
 
 -- ── refusals in front of others ──
@@ -67,6 +64,18 @@ admits m short e =
 pub well_formed-is_admitted : WellFormedIsAdmitted
 unfolding admission
 well_formed-is_admitted m w = rw w
+
+-- 12 in front, then the check's number
+pub admission_short : (m : Monitor) (short : Bool) → short ≡ true → code (admission m short) ≡ WORKSPACE
+unfolding admission
+admission_short m short e = rw e
+
+pub admission_long : (m : Monitor) (short : Bool) → short ≡ false → code (admission m short) ≡ code (monitor_refusals m)
+unfolding admission
+admission_long m short e = rw e
+
+pub checked_formed : (m : Monitor) → 0 ≡ code (monitor_refusals m) → So (well_formed m)
+checked_formed m e = (admits m false (admission_long m false refl ∙ sym e)).1
 
 pub enters : (i : Instance) (e : Event) → code (entry i e) ≡ 0 → (is_closed i ≡ false) × (is_malformed e ≡ false)
 enters i e z = let k = (clear_both (entry i e) [] refl z).0 in (k.0, k.1.0)
@@ -203,7 +212,7 @@ module _ (c : Configuration) (i : Instance) (before : List ℕ) where
         let l = subst (λ (n : ℕ). So (leaves n)) e (code_among leaves (step_refusals c i u a) refl given) in
         rw (own, ne_eqb k 0 ne, not-true (eqb k NOT_POSSIBLE) l)
 
-    module _ (s : ℕ) (may : is_authorized c i u a ≡ true) (leads : leads_to i a ≡ To s) where
+    module _ (s : ℕ) (may : is_authorized c i u a ≡ true) (leads : leads_to i a ≡ Some s) where
       pub acts_on_full : 12 ≤ i.taken → record { code = FULL; instance = i; workspace = before } ≡ own_outcome c i (Acts u a) before
       acts_on_full h = simp (may, leads, le-leb 12 i.taken h)
 
@@ -215,15 +224,3 @@ module _ (c : Configuration) (i : Instance) (before : List ℕ) where
         pub acts : (j : Instance) → j ≡ taking c i u s → possible (term i) 0 (tried c i u) ≡ true
             → record { code = ACCEPTED; instance = j; workspace = after } ≡ own_outcome c i (Acts u a) before
         acts j e p = simp (w, e, may, leads, lt-leb 12 i.taken free, p)
-
--- ── what a close gives to an instance, by its tests ──
-module _ (i : Instance) where
-  pub closes_otherwise : eqb i.status letter_c ≡ false → CloseGives i NOT_SATISFIED i
-  closes_otherwise l = record { is_number = simp l; is_left = simp l }
-
-  module _ (l : eqb i.status letter_c ≡ true) where
-    pub closes_not-final : is_final i ≡ false → CloseGives i NOT_SATISFIED i
-    closes_not-final f = record { is_number = simp (l, f); is_left = simp (l, f) }
-
-    pub closes : (j : Instance) → j ≡ as_closed i → is_final i ≡ true → CloseGives i ACCEPTED j
-    closes j e f = record { is_number = simp (l, f); is_left = simp (e, l, f) }

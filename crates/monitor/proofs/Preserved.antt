@@ -27,8 +27,6 @@ use Rattle.units.specs.Units.{met_in, met_of}
 use Rattle.policy.proofs.Refusals.{clear, clear_code}
 use Rattle.configuration.specs.declared.Configuration.{Configuration}
 use Rattle.instance.specs.declared.Instance.{Instance}
-use Rattle.monitor.specs.declared.Event.{Event}
-use Rattle.monitor.specs.declared.Event.TheVariants.{Acts, Grants, Revokes, Closes, Malformed}
 use Rattle.workflow.specs.declared.Workflow.{Workflow}
 use Rattle.workflow.specs.Workflows.{is_given, workflow_ok}
 use Rattle.workflow.specs.Laws.{Read}
@@ -38,7 +36,7 @@ use Rattle.instance.specs.Letters.{letter_c, letter_o, open_letter}
 use Rattle.instance.specs.Instances.{policy_of, taken_of, term, is_closed, noted_for, instance_of, action_ok, is_idle, no_action, is_placed}
 use Rattle.instance.specs.Steps.{leads_to, state_of}
 use Rattle.monitor.specs.Monitors.{Opening, secure, open_code, fresh}
-use Rattle.monitor.specs.Events.{is_short, event_in, tried, own_refusals, advanced, applied, outcome}
+use Rattle.monitor.specs.Events.{Event, Acts, Grants, Revokes, Closes, Malformed, is_short, event_in, tried, own_refusals, advanced, applied, outcome}
 use Rattle.monitor.specs.Laws.{Passed}
 use Rattle.monitor.specs.Effects.{OpenedIsWellFormed, AcceptedStaysWellFormed, EventKeepsWellFormed}
 use Rattle.monitor.specs.Private.{Entered}

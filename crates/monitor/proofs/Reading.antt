@@ -10,9 +10,7 @@ use borrow.Author.Tests.{ltb-false, le-ltb}
 use Rattle.soda.proofs.Bools.{and_split, so_lt, so_eq}
 use Rattle.policy.specs.Kinds.{ACTION, GRANT, REVOKE, CLOSE}
 use Rattle.configuration.specs.declared.Configuration.{Configuration}
-use Rattle.monitor.specs.declared.Event.{Event}
-use Rattle.monitor.specs.declared.Event.TheVariants.{Acts, Grants, Revokes, Closes, Malformed}
-use Rattle.monitor.specs.Events.{event_of, read_event, is_malformed, is_short}
+use Rattle.monitor.specs.Events.{Event, Acts, Grants, Revokes, Closes, Malformed, event_of, read_event, is_malformed, is_short}
 use Rattle.monitor.specs.Laws.{Declared, ReadIsDeclared}
 use Rattle.monitor.specs.Private.{Entered, LongEnough}
 

@@ -9,10 +9,8 @@ use Rattle.policy.specs.Codes.{NOT_SATISFIED}
 use Rattle.policy.specs.Refusals.{code}
 use Rattle.instance.specs.Letters.{letter_c}
 use Rattle.instance.specs.Steps.{is_authorized, leads_to, is_final}
-use Rattle.monitor.specs.declared.Event.{Event}
-use Rattle.monitor.specs.declared.Event.TheVariants.{Acts, Malformed}
 use Rattle.monitor.specs.Enabled.{action_word}
-use Rattle.monitor.specs.Events.{is_short, applied, event_refusals, workspace_after, Outcome, outcome}
+use Rattle.monitor.specs.Events.{Event, Acts, Malformed, is_short, applied, event_refusals, workspace_after, Outcome, outcome}
 use Rattle.monitor.specs.Laws.{WithoutWorkflow, NumberPlaysNoPart}
 use Rattle.monitor.proofs.Enabling.{its_kind, read_action}
 

@@ -7,15 +7,13 @@ use Rattle.policy.specs.Codes.{NOT_POSSIBLE}
 use Rattle.configuration.specs.declared.Configuration.{Configuration}
 use Rattle.instance.specs.declared.Instance.{Instance}
 use Rattle.monitor.specs.declared.Monitor.{Monitor}
-use Rattle.monitor.specs.declared.Event.{Event}
-use Rattle.monitor.specs.declared.Event.TheVariants.{Acts, Grants, Revokes, Closes, Malformed}
 use Rattle.configuration.specs.Configurations.{held}
 use Rattle.soda.specs.Tables.{satisfied}
 use Rattle.instance.specs.Letters.{letter_d, open_letter}
 use Rattle.instance.specs.Instances.{term, is_closed, no_action, noted_for}
 use Rattle.instance.specs.Steps.{leads_to, state_of}
 use Rattle.monitor.specs.Monitors.{Opening, open_code, fresh, well_formed}
-use Rattle.monitor.specs.Events.{event_in, tried, applied, outcome}
+use Rattle.monitor.specs.Events.{Event, Acts, Grants, Revokes, Closes, Malformed, event_in, tried, applied, outcome}
 
 -- the policy, and the action at a place
 abbrev pub policy_in : Instance → List ℕ × ℕ

@@ -1,18 +1,29 @@
 -- Who may act (document 02, E1 and E4): the users whose action, of one number, would be answered 0 now.
-use Rattle.std.specs.Prelude.{◌≡◌, ◌≢◌, Bool, false, not, ◌||◌, cond, List, map, ℕ, ◌+◌, ◌-◌, ◌*◌, ◌^◌, ◌≤◌, ◌<◌, leb, ltb, eqb, length}
+use Rattle.std.specs.Prelude.{◌≡◌, ◌≢◌, Bool, false, not, ◌||◌, cond, List, map, ℕ, ◌+◌, ◌-◌, ◌*◌, ◌^◌, ◌≤◌, ◌<◌, leb, ltb, eqb, length, Result, Ok, Err}
 use Rattle.std.proofs.Math.Bool.{So}
 use Rattle.soda.specs.Bits.{bit, number}
 use Rattle.soda.specs.Lists.{range}
 use Rattle.policy.specs.Codes.{NOT_AUTHORIZED, NO_TRANSITION}
 use Rattle.policy.specs.Kinds.{ACTION}
 use Rattle.policy.specs.Refusals.{code}
+use Rattle.policy.specs.Faults.{code_number}
+use Rattle.policy.specs.Answers.{code_of}
+use Rattle.policy.specs.declared.refusal.Refusal.{Refusal}
 use Rattle.instance.specs.Instances.{is_closed}
 use Rattle.configuration.specs.Permitted.{behind_last}
 use Rattle.monitor.specs.declared.Monitor.{Monitor}
-use Rattle.monitor.specs.declared.Enabled.{Enabled}
-use Rattle.monitor.specs.declared.Enabled.TheVariants.{Users, Refused}
 use Rattle.monitor.specs.Monitors.{admission}
 use Rattle.monitor.specs.Events.{event_code, outcome}
+
+-- who may act: a set of users, bit u for user u, or a refusal's number
+pub data Enabled : Type 0 where
+  Users : ℕ → Enabled
+  Refused : ℕ → Enabled
+
+-- what `enabled` of src answers
+abbrev pub as_enabled : Result ℕ Refusal → Enabled
+as_enabled (Ok mask) = Users mask
+as_enabled (Err r) = Refused (code_number (code_of r))
 
 -- 01's number for each case
 abbrev pub enabled_number : Enabled → ℕ

@@ -1,16 +1,17 @@
 -- One event (document 01, "Sheets and events"): its word, the refusals in order, and what it leaves.
-use Rattle.std.specs.Prelude.{Bool, true, false, not, ◌&&◌, ◌||◌, cond, List, [], ◌∷◌, ◌++◌, ℕ, ◌/◌, ◌%◌, ◌^◌, leb, ltb, eqb, length}
+use Rattle.std.specs.Prelude.{Bool, true, false, not, ◌&&◌, ◌||◌, cond, List, [], ◌∷◌, ◌++◌, ℕ, ◌/◌, ◌%◌, ◌^◌, leb, ltb, eqb, length, Option, Some, None, Result, Ok, Err}
 use Rattle.soda.specs.Tables.{satisfied, possible}
 use Rattle.soda.specs.declared.Action.{Action}
 use Rattle.policy.specs.Codes.{ACCEPTED, MALFORMED, FULL, NOT_POSSIBLE, CLOSED, NOT_SATISFIED}
 use Rattle.policy.specs.Kinds.{ACTION, GRANT, REVOKE, CLOSE}
 use Rattle.policy.specs.Refusals.{◌gives◌, code}
+use Rattle.policy.specs.declared.refusal.Refusal.{Refusal}
 use Rattle.workspace.specs.Workspace.{filled}
 use Rattle.configuration.specs.declared.Configuration.{Configuration}
 use Rattle.instance.specs.declared.Instance.{Instance}
 use Rattle.monitor.specs.declared.Monitor.{Monitor}
-use Rattle.monitor.specs.declared.Event.{Event}
-use Rattle.monitor.specs.declared.Event.TheVariants.{Acts, Grants, Revokes, Closes, Malformed}
+use Rattle.monitor.specs.declared.events.Event.{Event as EventRead}
+use Rattle.monitor.specs.declared.events.Event.TheVariants.{Action as ActionRead, Grant as GrantRead, Revoke as RevokeRead, Close as CloseRead}
 use Rattle.configuration.specs.Configurations.{with_grant, without_grant}
 use Rattle.instance.specs.Letters.{letter_c, open_letter}
 use Rattle.instance.specs.Instances.{taken_of, term, is_closed, noted_for, with_action, with_status, as_closed}
@@ -18,7 +19,15 @@ use Rattle.instance.specs.Steps.{leads_to, step_refusals, state_of, is_final}
 use Rattle.monitor.specs.Monitors.{admission}
 
 -- ── the word ──
+-- a user acts, with the action's number, is granted a role or has one revoked, or the instance is closed
 -- `Malformed`: out of layout, or a user or role that is not declared (01, number 7).
+pub data Event : Type 0 where
+  Acts : ℕ → ℕ → Event
+  Grants : ℕ → ℕ → Event
+  Revokes : ℕ → ℕ → Event
+  Closes : Event
+  Malformed : Event
+
 -- the kind in bits 24 to 31, the user in bits 8 to 15, a role or an action's number in bits 0 to 7
 abbrev pub event_of : ℕ → ℕ → ℕ → ℕ → ℕ → Event
 event_of users roles kind user low =
@@ -31,6 +40,14 @@ event_of users roles kind user low =
 -- bits 16 to 23 are zero
 unfoldable pub read_event : ℕ → ℕ → ℕ → Event
 read_event users roles w = cond (eqb (w / 2 ^ 16 % 2 ^ 8) 0) (event_of users roles (w / 2 ^ 24) (w / 2 ^ 8 % 2 ^ 8) (w % 2 ^ 8)) Malformed
+
+-- what src reads of a word; nothing of a malformed one
+abbrev pub as_event : Option EventRead → Event
+as_event (Some (ActionRead u a)) = Acts u a
+as_event (Some (GrantRead u r)) = Grants u r
+as_event (Some (RevokeRead u r)) = Revokes u r
+as_event (Some CloseRead) = Closes
+as_event None = Malformed
 
 -- A workspace of n words is too short for the word: document 02's E6, "12 no longer occurs .. for any word of kind 4", in the layout or not.
 abbrev pub is_short : ℕ → ℕ → Bool
@@ -125,3 +142,8 @@ outcome m w before = record {
   monitor = event_monitor m w (length before);
   workspace = workspace_after m.configuration m.instance (event_in m w) (event_code m w (length before)) before;
 }
+
+-- what a call of src leaves of what it is given: a refusal keeps it
+abbrev pub left_after : {T : Type 0} → T → Result T Refusal → T
+left_after before (Ok after) = after
+left_after before (Err r) = before

@@ -6,8 +6,6 @@ use Rattle.policy.specs.Kinds.{CLOSE}
 use Rattle.policy.specs.Refusals.{◌gives◌, code}
 use Rattle.policy.specs.Accepted.{IsPolicy}
 use Rattle.monitor.specs.declared.Monitor.{Monitor}
-use Rattle.monitor.specs.declared.Event.{Event}
-use Rattle.monitor.specs.declared.Event.TheVariants.{Acts, Grants, Revokes, Closes, Malformed}
 use Rattle.workflow.specs.Reading.{secure_ok}
 use Rattle.configuration.specs.Configurations.{rows_ok}
 use Rattle.configuration.specs.declared.Configuration.{Configuration}
@@ -15,7 +13,7 @@ use Rattle.instance.specs.declared.Instance.{Instance}
 use Rattle.instance.specs.Letters.{letter_c}
 use Rattle.instance.specs.Instances.{has_workflow, is_closed}
 use Rattle.monitor.specs.Monitors.{Opening, policy, open_code, fresh, opened, well_formed, admission}
-use Rattle.monitor.specs.Events.{read_event, is_malformed, trial_refusals, own_refusals, event_refusals, advanced, outcome}
+use Rattle.monitor.specs.Events.{Event, Acts, Grants, Revokes, Closes, Malformed, read_event, is_malformed, trial_refusals, own_refusals, event_refusals, advanced, outcome}
 use Rattle.monitor.specs.Statuses.{letter_of}
 use Rattle.monitor.specs.Enabled.{action_word}
 

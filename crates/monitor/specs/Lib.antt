@@ -1,4 +1,5 @@
 pub mod Monitors
+pub mod Evaluations
 pub mod Events
 pub mod Statuses
 pub mod Enabled

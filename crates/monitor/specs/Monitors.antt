@@ -1,16 +1,16 @@
 -- The monitor (document 01: sheet), a configuration and an instance: the blank one, opening one, and when one is well formed.
-use Rattle.std.specs.Prelude.{Bool, not, ◌&&◌, cond, List, [], ◌∷◌, ◌++◌, ℕ, eqb}
+use Rattle.std.specs.Prelude.{Bool, not, ◌&&◌, cond, List, [], ◌∷◌, ◌++◌, ℕ, eqb, Result, Ok, Err}
 use Rattle.soda.specs.Terms.{Term}
-use Rattle.policy.specs.Codes.{WORKFLOW, WORKSPACE, MONITOR}
+use Rattle.policy.specs.Codes.{ACCEPTED, WORKFLOW, WORKSPACE, MONITOR}
 use Rattle.policy.specs.Refusals.{◌gives◌, code}
 use Rattle.policy.specs.Words.{decode, term_of}
 use Rattle.policy.specs.Faults.{code_at}
 use Rattle.policy.specs.Reading.{refusals}
-use Rattle.policy.specs.declared.Code.{Code}
-use Rattle.workflow.specs.declared.SecureWorkflow.{SecureWorkflow}
-use Rattle.workflow.specs.Reading.{secure_ok, secure_of}
+use Rattle.policy.specs.Codes.{Code, Plain}
+use Rattle.policy.specs.Answers.{code_of}
+use Rattle.policy.specs.declared.refusal.Refusal.{Refusal}
+use Rattle.workflow.specs.Reading.{SecureRead, secure_ok, secure_of}
 use Rattle.monitor.specs.declared.Monitor.{Monitor}
-use Rattle.monitor.specs.declared.Opened.{Opened}
 use Rattle.configuration.specs.Configurations.{no_configuration, configuration_of, with_permissions, row_refusals, configuration_ok}
 use Rattle.instance.specs.Instances.{no_instance, instance_of, instance_ok}
 
@@ -37,7 +37,7 @@ abbrev pub policy : Opening → Term
 policy o = term_of (decode o.words)
 
 -- its permissions and its workflow, as they are read
-abbrev pub secure : Opening → SecureWorkflow
+abbrev pub secure : Opening → SecureRead
 secure o = secure_of o.roles o.permissions o.workflow
 
 -- "19 follows 6 at opening"
@@ -70,8 +70,18 @@ fresh o = record {
 unfoldable pub opened : Opening → Monitor
 opened o = cond (eqb (open_code o) 0) (fresh o) blank
 
+-- what an opening answers: its code, and the monitor that it leaves
+pub record Opened : Type 0 where
+  pub code : Code
+  pub monitor : Monitor
+
 abbrev pub opening : Opening → Opened
 opening o = record { code = code_in o (open_code o); monitor = opened o }
+
+-- what `open` of src answers
+abbrev pub as_opened : Result Monitor Refusal → Opened
+as_opened (Ok m) = record { code = Plain ACCEPTED; monitor = m }
+as_opened (Err r) = record { code = code_of r; monitor = blank }
 
 -- ── number 15: exactly 01's list, and what 02's E4 and E6 add to it ──
 abbrev pub well_formed : Monitor → Bool

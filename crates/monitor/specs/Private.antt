@@ -1,47 +1,32 @@
 -- What the monitor's private functions ask for and give.
-use Rattle.std.specs.Prelude.{◌≡◌, Bool, ◌&&◌, cond, List, map, ℕ, ◌-◌, ◌≤◌, ◌<◌, leb, ltb, eqb, length}
+use Rattle.std.specs.Prelude.{◌≡◌, ◌&&◌, cond, List, map, ℕ, ◌-◌, ◌≤◌, ◌<◌, leb, ltb, eqb, length, Result, IfOk}
 use Rattle.std.proofs.Math.Bool.{So}
 use Rattle.soda.specs.Bits.{number}
 use Rattle.soda.specs.Lists.{range}
-use Rattle.soda.specs.Tables.{satisfied, possible}
+use Rattle.soda.specs.Tables.{possible}
 use Rattle.policy.specs.Refusals.{code}
+use Rattle.policy.specs.Answers.{answer_number}
+use Rattle.policy.specs.declared.refusal.Refusal.{Refusal}
 use Rattle.units.specs.Units.{met_of}
-use Rattle.workspace.specs.Workspace.{filled, is_filled}
+use Rattle.workspace.specs.Workspace.{filled}
 use Rattle.workspace.specs.Trials.{Trials}
 use Rattle.configuration.specs.declared.Configuration.{Configuration}
 use Rattle.instance.specs.declared.Instance.{Instance}
 use Rattle.monitor.specs.declared.Monitor.{Monitor}
-use Rattle.monitor.specs.declared.Event.{Event}
-use Rattle.monitor.specs.declared.Event.TheVariants.{Acts, Grants, Revokes, Closes, Malformed}
-use Rattle.instance.specs.declared.Check.{Check}
-use Rattle.instance.specs.declared.Step.{Step}
-use Rattle.instance.specs.declared.Step.TheVariants.{To, Refused}
-use Rattle.monitor.specs.declared.monitors.Admission.{Admission}
 use Rattle.configuration.specs.Configurations.{held, configuration_ok}
-use Rattle.monitor.specs.Monitors.{admission}
-use Rattle.instance.specs.Letters.{is_letter}
-use Rattle.instance.specs.Instances.{policy_of, taken_of, term, as_closed, instance_ok}
+use Rattle.monitor.specs.Monitors.{monitor_refusals}
+use Rattle.instance.specs.Instances.{policy_of, term, as_closed, instance_ok}
 use Rattle.instance.specs.Candidates.{is_candidate, candidates_of}
-use Rattle.monitor.specs.Events.{tried, close_refusals, own_refusals, taking, advanced, applied, workspace_after, Outcome}
+use Rattle.monitor.specs.Events.{Event, Acts, Grants, Revokes, Closes, Malformed, tried, close_refusals, own_refusals, advanced, applied, workspace_after, Outcome}
 
 -- what is noted of user u
 abbrev pub Meets : Configuration → Instance → ℕ → ℕ → Type 0
 Meets c i u met = met ≡ met_of (policy_of i) u (held c u)
 
--- whether a monitor's parts are well formed, which `ok` says, and then what user u meets
-pub record Checked (c : Configuration) (i : Instance) (u : ℕ) (ok : Bool) (r : Check) : Type 0 where
-  pub is_ok : r.well_formed ≡ ok
-  pub meets : So ok → Meets c i u r.met
-
--- 12, 15 or 0, and for 0 what user u meets
-pub record Admits (m : Monitor) (short : Bool) (u : ℕ) (r : Admission) : Type 0 where
-  pub number : r.code ≡ code (admission m short)
-  pub meets : r.code ≡ 0 → Meets m.configuration m.instance u r.met
-
--- the workspace can be filled for the taken actions
-pub record Fillable (i : Instance) (before : List ℕ) : Type 0 where
-  pub words_most : i.words ≤ 31
-  pub fills : So (is_filled (policy_of i) i.actions i.taken before)
+-- 15 or 0, and for 0 what user u meets
+pub record Checked (m : Monitor) (u : ℕ) (r : Result ℕ Refusal) : Type 0 where
+  pub number : answer_number r ≡ code (monitor_refusals m)
+  pub meets : IfOk r (Meets m.configuration m.instance u)
 
 -- one more action by each candidate tried behind the taken ones: who can act, and the workspace that speaks of the last candidate's trial;
 -- where there is no candidate, and with twelve actions, nobody, and the workspace as it was
@@ -52,12 +37,6 @@ each_tried c i a before = cond (ltb i.taken 12 && leb 1 (candidates_of c i a).be
       workspace = filled (term i) (tried c i ((candidates_of c i a).behind - 1)) before;
     })
     (record { mask = 0; workspace = before })
-
--- the taken actions evaluated: what holds of them, and the workspace that speaks of them
-pub record Evaluated (i : Instance) (is_satisfied is_possible : Bool) (before after : List ℕ) : Type 0 where
-  pub satisfied_is : is_satisfied ≡ satisfied (term i) 0 (taken_of i)
-  pub possible_is : is_possible ≡ possible (term i) 0 (taken_of i)
-  pub workspace : after ≡ filled (term i) (taken_of i) before
 
 -- 15 does not apply to the two parts
 pub record Sound (c : Configuration) (i : Instance) : Type 0 where
@@ -102,21 +81,16 @@ Noting m (Revokes u r) met = Unit
 Noting m Closes met = Unit
 Noting m Malformed met = Unit
 
--- the status that a letter stands for: its number, and the letter itself
-pub record Stated (byte number letter : ℕ) : Type 0 where
-  pub is_accepted : number ≡ 0
-  pub as_letter : So (is_letter byte) → letter ≡ byte
-
--- one more action tried, which leads to state s: the instance with it, whether the actions are possible, and the workspace that speaks of them
-pub record Trial (c : Configuration) (i : Instance) (u s : ℕ) (with_it : Instance) (is_possible : Bool) (before after : List ℕ) : Type 0 where
-  pub is_with : with_it ≡ taking c i u s
-  pub possible_is : is_possible ≡ possible (term i) 0 (tried c i u)
-  pub workspace : after ≡ filled (term i) (tried c i u) before
-
 -- what a close gives to an instance
-pub record CloseGives (i : Instance) (number : ℕ) (left : Instance) : Type 0 where
-  pub is_number : number ≡ code (close_refusals i)
-  pub is_left : left ≡ cond (eqb (code (close_refusals i)) 0) (as_closed i) i
+pub record CloseOutcome : Type 0 where
+  pub code : ℕ
+  pub instance : Instance
+
+abbrev pub close_outcome : Instance → CloseOutcome
+close_outcome i = record {
+  code = code (close_refusals i);
+  instance = cond (eqb (code (close_refusals i)) 0) (as_closed i) i;
+}
 
 -- what an event gives to an instance to which none of 12, 15, 10 and 7 applies
 pub record InstanceOutcome : Type 0 where
@@ -130,11 +104,6 @@ own_outcome c i e before = record {
   instance = cond (eqb (code (own_refusals c i e)) 0) (advanced c i e) i;
   workspace = workspace_after c i e (code (own_refusals c i e)) before;
 }
-
--- the number of a step; 0 if it is not refused
-abbrev pub step_number : Step → ℕ
-step_number (To s) = 0
-step_number (Refused k) = k
 
 -- what an event gives to such a monitor
 abbrev pub monitor_outcome : Monitor → Event → List ℕ → Outcome

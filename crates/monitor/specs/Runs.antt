@@ -1,9 +1,7 @@
 -- What a list of 32-bit words does to a monitor: each event gets it as the last one left it, and the status is asked after each.
 use Rattle.std.specs.Prelude.{◌≡◌, Bool, true, false, ◌&&◌, cond, List, [], ◌∷◌, ℕ, ◌+◌, ◌≤◌, eqb}
 use Rattle.monitor.specs.declared.Monitor.{Monitor}
-use Rattle.monitor.specs.declared.Event.{Event}
-use Rattle.monitor.specs.declared.Event.TheVariants.{Acts, Grants, Revokes, Closes, Malformed}
-use Rattle.monitor.specs.Events.{is_short, event_in, event_code, event_monitor}
+use Rattle.monitor.specs.Events.{Event, Acts, Grants, Revokes, Closes, Malformed, is_short, event_in, event_code, event_monitor}
 use Rattle.monitor.specs.Statuses.{status_code, status_letter}
 
 -- Every event call may have its own workspace; the status call has none. Numbers, monitors and letters depend on its length alone, so a run is

@@ -1,30 +1,34 @@
-// The taken actions evaluated through the workspace.
-ghost use Rattle.monitor.specs.Private.{Fillable, Evaluated};
+// Actions evaluated through the workspace.
+ghost use Rattle.monitor.specs.Evaluations.{Evaluates};
 
-use instance::Instance;
+use policy::Refusal;
+use soda::Action;
 
-// Whether the taken actions satisfy the policy, and whether they are possible.
-#[derive(Clone, Copy)]
-pub(crate) struct Evaluation {
+// What is found of actions: whether they satisfy the policy, and whether they are possible.
+#[derive(Clone, Copy, Debug, PartialEq, Eq)]
+pub struct Evaluation {
     pub satisfied: bool,
     pub possible: bool,
 }
 
-// Fills the workspace for the taken actions, and reads both verdicts at the mask of all of them.
-pub(crate) fn evaluate(instance: Instance, workspace: &mut [u32]) -> Evaluation
-    requires { Fillable instance workspace.old }
-    ensures { Evaluated instance result.satisfied result.possible workspace.old workspace.new }
+// Fills the workspace for the actions, at most twelve, and reads both verdicts at the mask of all of them.
+pub fn evaluate(
+    words: &[u32],
+    actions: &[Action],
+    workspace: &mut [u32],
+) -> Result<Evaluation, Refusal>
+    ensures { Evaluates words.now actions.now workspace.old result workspace.new }
 {
-    let policy = instance.policy;
-    let words = instance.words as usize;
-    let actions = instance.actions;
-    let taken = instance.taken;
-    workspace::fill(&policy[..words], actions, taken, workspace);
-    let all = (1usize << taken) - 1;
-    let satisfied = workspace[all] & 1 == 1;
-    let possible = workspace[4096 + all] & 1 == 1;
-    Evaluation {
-        satisfied,
-        possible,
+    if workspace.len() < 8192 {
+        return Err(Refusal::Workspace);
     }
+    if 12 < actions.len() {
+        return Err(Refusal::Full);
+    }
+    workspace::fill(words, actions, workspace);
+    let all = (1usize << actions.len()) - 1;
+    Ok(Evaluation {
+        satisfied: workspace[all] & 1 == 1,
+        possible: workspace[4096 + all] & 1 == 1,
+    })
 }

@@ -1,4 +1,6 @@
 -- The users of a multiset, each as often as it occurs.
+use Rattle.std.specs.Prelude.{sum}
+use Rattle.std.proofs.lemmas.List.Sums.{sum_by-cons}
 use mathlib.Core.Path.{◌≡◌, refl, sym, ap, ◌∙◌}
 use mathlib.Core.Bool.{Bool, So}
 use mathlib.Core.List.{List, [], ◌∷◌, ◌++◌, map, map-append}
@@ -16,6 +18,11 @@ use Rattle.multiset.specs.MultisetTest.{total, listed}
 pub listed-length : (u : ℕ) (l : List ℕ) → length (listed u l) ≡ total l
 listed-length u [] = refl
 listed-length u (c ∷ l) = length-append (replicate c u) (listed (suc u) l) ∙ omega (arith, length-replicate {A = ℕ} c u, listed-length (suc u) l)
+
+-- the total is std's sum
+pub total-is-sum : (l : List ℕ) → total l ≡ sum l
+total-is-sum [] = refl
+total-is-sum (c ∷ l) = ap (λ (n : ℕ). c + n) (total-is-sum l) ∙ sym (sum_by-cons (λ (x : ℕ). x) c l)
 
 pub listed-all : (f : ℕ → Bool) (n u : ℕ) (l : List ℕ) → u + length l ≤ n → ((v : ℕ) → u ≤ v → v < n → So (f v)) → So (all f (listed u l))
 listed-all f n u [] h k = refl

@@ -1,38 +1,35 @@
 -- The multiset test (document 01: the bag test): does a multiset of users satisfy the policy by Definition 3 of document 004?
-use Rattle.std.specs.Prelude.{◌≡◌, ◌↔◌, Bool, not, cond, List, [], ◌∷◌, ◌++◌, map, ℕ, suc, ◌+◌, leb, ltb, eqb, length, get_or, drop, replicate}
+use Rattle.std.specs.Prelude.{◌≡◌, ◌↔◌, Bool, true, false, not, cond, List, [], ◌∷◌, ◌++◌, map, ℕ, suc, ◌+◌, leb, ltb, eqb, length, get_or, drop, replicate, Result, Ok, Err}
 use Rattle.std.proofs.Math.Bool.{So}
 use Rattle.soda.specs.Lists.{all, ascending}
 use Rattle.soda.specs.Roles.{roles}
 use Rattle.soda.specs.Tables.{satisfied}
 use Rattle.soda.specs.Multisets.{multiset}
 use Rattle.soda.specs.declared.Action.{Action}
-use Rattle.policy.specs.Codes.{ACCEPTED, MALFORMED, FULL, WORKSPACE}
+use Rattle.policy.specs.Codes.{MALFORMED, FULL, WORKSPACE}
 use Rattle.policy.specs.Refusals.{◌gives◌, code}
-use Rattle.policy.specs.declared.Code.{Code}
-use Rattle.policy.specs.declared.Code.TheVariants.{Plain}
+use Rattle.policy.specs.Codes.{Code}
+use Rattle.policy.specs.Answers.{answer_code}
+use Rattle.policy.specs.declared.refusal.Refusal.{Refusal}
 use Rattle.workspace.specs.Workspace.{filled}
 use Rattle.configuration.specs.Configurations.{is_zero}
 use Rattle.instance.specs.Instances.{noted}
 use Rattle.monitor.specs.Monitors.{Opening, bare, policy, open_refusals, code_in}
-use Rattle.multiset.specs.declared.Verdict.{Verdict}
-use Rattle.multiset.specs.declared.Verdict.TheVariants.{Yes, No, Refused}
 
--- the code of each case, and a letter for the answer, `y` or `n`; a refusal has none
+-- the code of what src's `satisfies` answers, and a letter for the answer, `y` or `n`; a refusal has none
 abbrev pub letter_y : ℕ
 letter_y = 121
 
 abbrev pub letter_n : ℕ
 letter_n = 110
 
-abbrev pub verdict_code : Verdict → Code
-verdict_code Yes = Plain ACCEPTED
-verdict_code No = Plain ACCEPTED
-verdict_code (Refused c) = c
+abbrev pub verdict_code : Result Bool Refusal → Code
+verdict_code a = answer_code a
 
-abbrev pub verdict_letter : Verdict → ℕ
-verdict_letter Yes = letter_y
-verdict_letter No = letter_n
-verdict_letter (Refused c) = 0
+abbrev pub verdict_letter : Result Bool Refusal → ℕ
+verdict_letter (Ok true) = letter_y
+verdict_letter (Ok false) = letter_n
+verdict_letter (Err r) = 0
 
 -- how many actions in all
 abbrev pub total : List ℕ → ℕ

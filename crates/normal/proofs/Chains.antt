@@ -1,12 +1,12 @@
 -- A normal form's words are a chain of any operator, which leans right; and how the code takes a chain apart.
 use mathlib.Core.Path.{◌≡◌, refl, sym, ap, ◌∙◌, subst}
-use mathlib.Core.Bool.{Bool, true, false, So, cond, true≢false}
+use mathlib.Core.Bool.{true, false, So, true≢false}
 use mathlib.Core.List.{List, [], ◌∷◌, ◌++◌, append_assoc, append-nil}
 use Prim.Native.Nat.{ℕ, zero, suc, ◌+◌, ◌≤◌, ◌<◌, ◌^◌}
 use native.Mathlib.Nat.{add-zero}
 use native.Mathlib.Numerals.{add-one, add-two, one-add}
 use native.Mathlib.Omega.{arith}
-use lib.Dec.{ltb, eqb}
+use lib.Dec.{eqb}
 use lib.ListN.{length, get_or, take, drop, length-append, length-take, length-drop, get_or-append}
 use lib.Seq.{take_at, drop-append_seam}
 use borrow.Author.Tests.{eq-eqb, eqb-false, ne_eqb, le-ltb}
@@ -20,21 +20,12 @@ use Rattle.soda.proofs.Terms.{size_pos}
 use Rattle.soda.proofs.Words.{op_high, same_kind, encode-length, words_trans, compare_in_place}
 use Rattle.soda.proofs.Normal.{by_operands, operands-some, chain_cons, normal-operands}
 use Rattle.soda.proofs.EqualForms.{normal_keeps, normal-is-normal}
-use Rattle.policy.specs.Kinds.{NOT, EITHER}
 use Rattle.policy.specs.Words.{kind, sides}
 use Rattle.normal.specs.Private.{span, lead, operand_of, Operand, Chain, last, more}
 use Rattle.policy.proofs.Grammar.{op_sides}
 use Rattle.policy.proofs.Encoding.{kind-word}
 
 -- ── word counts ──
-pub sides-few : (k : ℕ) → sides k ≤ 2
-sides-few k = few (ltb k NOT) (ltb k EITHER)
-  where
-    few : (a b : Bool) → cond a 0 (cond b 1 2) ≤ 2
-    few true b = omega arith
-    few false true = omega arith
-    few false false = omega arith
-
 pub span_none : (ws : List ℕ) → span 0 ws ≡ 0
 span_none [] = refl
 span_none (w ∷ ws) = refl
@@ -180,16 +171,17 @@ chain-words op (φ ∷ []) rest h p = last p.0
 chain-words op (φ ∷ ψ ∷ l) rest h p = rw append_assoc (more p.0 (chain-words op (ψ ∷ l) rest (omega arith) p.1))
 
 -- the words of a normal form are a chain of any operator
-pub normal-words : (op : Op) (φ : Term) (rest : List ℕ) → So (fits φ) → Chain (op_word op) (encode (normal_form φ) ++ rest) (operands op (normal_form φ)) rest
-normal-words op φ rest f =
+pub normal-words : (op : Op) {w : ℕ} → w ≡ op_word op → (φ : Term) (rest : List ℕ) → So (fits φ) → Chain w (encode (normal_form φ) ++ rest) (operands op (normal_form φ)) rest
+normal-words op e φ rest f =
     let n = normal_form φ in
-    subst (λ (χ : Term). Chain (op_word op) (encode χ ++ rest) (operands op n) rest) (normal-chain op n (normal-is-normal φ f))
-    (chain-words op (operands op n) rest (operands-some op n) (operands_fine op n ((normal_keeps φ).same_fits ∙ f)))
+    rw e
+    (subst (λ (χ : Term). Chain (op_word op) (encode χ ++ rest) (operands op n) rest) (normal-chain op n (normal-is-normal φ f))
+    (chain-words op (operands op n) rest (operands-some op n) (operands_fine op n ((normal_keeps φ).same_fits ∙ f))))
 
 chain-some : {w : ℕ} {ws : List ℕ} {l : List Term} {rest : List ℕ} → Chain w ws l rest → 0 < length l
 chain-some (last p) = omega arith
 chain-some (more p c) = omega arith
 
-pub words-chain : (op : Op) {ws : List ℕ} {l : List Term} {rest : List ℕ} → Chain (op_word op) ws l rest → ws ≡ encode (chain op l) ++ rest
-words-chain op (last p) = refl
-words-chain op (more {φ} {l} p c) = rw (chain_cons op φ l (chain-some c), append_assoc) (ap (λ (vs : List ℕ). op_word op ∷ (encode φ ++ vs)) (words-chain op c))
+pub words-chain : (op : Op) {w : ℕ} → w ≡ op_word op → {ws : List ℕ} {l : List Term} {rest : List ℕ} → Chain w ws l rest → ws ≡ encode (chain op l) ++ rest
+words-chain op e (last p) = refl
+words-chain op e (more {φ} {l} p c) = rw (e, chain_cons op φ l (chain-some c), append_assoc) (ap (λ (vs : List ℕ). op_word op ∷ (encode φ ++ vs)) (words-chain op e c))

@@ -9,7 +9,7 @@ use Rattle.policy.specs.Refusals.{Refusals, ◌gives◌, code}
 use Rattle.policy.specs.Words.{decode}
 use Rattle.policy.specs.Faults.{code_at}
 use Rattle.policy.specs.Reading.{refusals}
-use Rattle.policy.specs.declared.Code.{Code}
+use Rattle.policy.specs.Codes.{Code}
 
 -- the words of a term's normal form
 abbrev pub normal_in : Option Term → List ℕ

@@ -3,6 +3,7 @@ use mathlib.Core.Path.{◌≡◌, refl, sym, ap, ◌∙◌}
 use mathlib.Core.Bool.{not}
 use mathlib.Core.List.{List, [], ◌∷◌, ◌++◌, append-nil}
 use mathlib.Core.Option.{some, none, none-ne-some}
+use Rattle.std.specs.Prelude.{Some, None}
 use Prim.Native.Nat.{ℕ, ◌+◌, ◌*◌, ◌^◌, ◌≤◌, ◌<◌}
 use native.Mathlib.Omega.{arith}
 use borrow.Author.Tests.{ltb-true, eqb-false, not-true}
@@ -12,7 +13,6 @@ use lib.Seq.{drop-length, drop-cons, take_at}
 use Rattle.soda.specs.Terms.{Op, either, both, together, apart, Term, everyone, role, set, ¬ᵗ◌, ◌⁺, bin, size}
 use Rattle.soda.specs.Words.{encode, declared}
 use Rattle.soda.proofs.Bools.{by_test, and_split}
-use Rattle.soda.proofs.Terms.{size_pos}
 use Rattle.soda.proofs.Words.{encode-length}
 use Rattle.text.specs.Texts.{ascii, numeral, set_text, op_text, text}
 use Rattle.text.specs.Grammar.{Read, upon, members_in, term_in, at_end, parse}
@@ -65,12 +65,9 @@ few_words (bin op φ ψ) d =
     pair-few a o b x y h i j = omega (arith, length-append a (o ++ (b ++ ascii ")")), length-append o (b ++ ascii ")"), length-append b (ascii ")"))
 
 -- ── what is read ──
-module _ (t words new : List ℕ) (r : Span) (read : Parsed t words r new) (room : length t + 2 ≤ 4 * length words) where
+module _ (t words new : List ℕ) (room : length t + 2 ≤ 4 * length words) where
   abbrev o : Read Term
   o = term_in (length t) t
-
-  abbrev fitted : Read Term
-  fitted = fitting (length words) o
 
   -- a whole text's words have room
   whole_fits : (φ : Term) → o ≡ some (φ, []) → size φ ≤ length words
@@ -79,38 +76,37 @@ module _ (t words new : List ℕ) (r : Span) (read : Parsed t words r new) (room
       let n = few_words φ d in
       omega (arith, ap length (s ∙ append-nil (text φ)))
 
-  pub whole_none : r.bytes ≡ 0 → parse t ≡ none
+  no_words : parse t ≡ none → WordsRead (parse t) None new
+  no_words e = rw e tt
+
+  pub whole_none : Parsed t words None new → WordsRead (parse t) None new
   unfolding parse
-  whole_none e = go o refl (missing (Worded words r new) fitted t r.bytes (read (length t) (omega arith)) e)
+  whole_none read = no_words (go o refl (missing (λ s. s.bytes) (λ s. Worded words s new) (fitting (length words) o) t (read (length t) (omega arith))))
     where
       go : (p : Read Term) → o ≡ p → fitting (length words) p ≡ none → upon p (λ φ. at_end φ.0 φ.1) ≡ none
       go none q f = refl
       go (some (φ, [])) q f = absurd (none-ne-some (φ, []) (sym f ∙ fits (length words) (φ, []) (whole_fits φ q)))
       go (some (φ, b ∷ rest)) q f = refl
 
-  module _ (some_bytes : r.bytes ≡ 0 → ⊥) where
+  module _ (r : Span) (read : Parsed t words (Some r) new) where
     found : (φ : Term) × (o ≡ some (φ, drop r.bytes t)) × Worded words r new φ × (r.bytes ≤ length t)
     found =
-        let g = there (Worded words r new) fitted t r.bytes (read (length t) (omega arith)) some_bytes in
+        let g = there (λ s. s.bytes) (λ s. Worded words s new) (fitting (length words) o) t r (read (length t) (omega arith)) in
         (g.thing, (fitting-some (length words) o (g.thing, drop r.bytes t) g.same).0, g.holds, g.within)
 
-    pub whole_other : (r.bytes ≡ length t → ⊥) → parse t ≡ none
+    pub whole_other : (r.bytes ≡ length t → ⊥) → WordsRead (parse t) None new
     unfolding parse
     whole_other n =
         let (φ, e, p, w) = found in
-        rw (e, drop-cons t r.bytes 0 (let z : r.bytes < length t = omega arith in z))
+        no_words (rw (e, drop-cons t r.bytes 0 (let z : r.bytes < length t = omega arith in z)))
 
-    pub whole_term : r.bytes ≡ length t → WordsRead (parse t) r.words new
+    pub whole_term : r.bytes ≡ length t → WordsRead (parse t) (Some r.words) new
     unfolding parse
     whole_term e =
         let (φ, q, p, w) = found in
         let l = put-length p.put (omega (arith, encode-length φ, p.room)) in
         let n : drop r.bytes t ≡ [] = ap (λ (k : ℕ). drop k t) e ∙ drop-length t in
         rw (q, n) (
-          omega (arith, p.put.count, encode-length φ, size_pos φ),
           omega (arith, p.put.count, encode-length φ, p.room),
           ap (take r.words) p.put.holds ∙ take_at (encode φ) (drop (length (encode φ)) words) r.words (sym p.put.count),
         )
-
-pub no_words : (t new : List ℕ) → parse t ≡ none → WordsRead (parse t) 0 new
-no_words t new e = rw e refl

@@ -1,7 +1,6 @@
 // Reading a policy's text (document 02, E7).
 #![tactic(auto)]
 
-mod copying;
 mod numerals;
 mod reader;
 mod reading;

@@ -1,62 +1,47 @@
 // The recursive reader: the term that a text begins with.
+ghost use Rattle.std.specs.Prelude.{◌≤◌, length, IfSome};
 ghost use Rattle.parser.specs.Private.{Parsed};
 
-use super::tokens::{begins, read_head, read_leaf, read_operator};
+use super::tokens::{Head, read_head, read_leaf, read_operator};
 use text::Span;
-
-// The text begins with no term, or with one for which there is no room.
-const NO_TERM: Span = Span { bytes: 0, words: 0 };
 
 // Reads the term that the text begins with, and writes its words at the start of out. Where out has no room for them there is none, so that no
 // text leads deeper than out has words.
-pub(crate) fn read_term(text: &[u8], out: &mut [u32]) -> Span
-    ensures { Parsed text.now out.old result out.new }
+pub(crate) fn read_term(text: &[u8], out: &mut [u32]) -> Option<Span>
+    ensures value { Parsed text.now out.old result out.new }
+    ensures bounds { IfSome result (λ s. (s.bytes ≤ length text.now) × (s.words ≤ length out.old)) }
 {
-    if out.len() == 0 {
-        return NO_TERM;
+    if out.is_empty() {
+        return None;
     }
-    let whole = read_leaf(text);
-    if whole.bytes != 0 {
-        out[0] = whole.word;
-        return Span {
-            bytes: whole.bytes,
+    if let Some(leaf) = read_leaf(text) {
+        out[0] = leaf.value;
+        return Some(Span {
+            bytes: leaf.bytes,
             words: 1,
-        };
+        });
     }
-    let h = read_head(text);
-    if h.bytes == 0 {
-        return NO_TERM;
-    }
-    let inner = h.bytes;
-    let a = read_term(&text[inner..], &mut out[1..]);
-    if a.bytes == 0 {
-        return NO_TERM;
-    }
-    let end = inner + a.bytes;
-    if h.word != 0 {
-        out[0] = h.word;
-        return Span {
-            bytes: end,
-            words: 1 + a.words,
-        };
-    }
-    let op = read_operator(&text[end..]);
-    if op.bytes == 0 {
-        return NO_TERM;
-    }
-    let second = end + op.bytes;
+    let head = read_head(text)?;
+    let a = read_term(&text[head.bytes..], &mut out[1..])?;
+    let end = head.bytes + a.bytes;
     let next = 1 + a.words;
-    let b = read_term(&text[second..], &mut out[next..]);
-    if b.bytes == 0 {
-        return NO_TERM;
+    if let Head::Over(word) = head.value {
+        out[0] = word;
+        return Some(Span {
+            bytes: end,
+            words: next,
+        });
     }
+    let operator = read_operator(&text[end..])?;
+    let second = end + operator.bytes;
+    let b = read_term(&text[second..], &mut out[next..])?;
     let close = second + b.bytes;
-    if !begins(&text[close..], b")") {
-        return NO_TERM;
+    if !text[close..].starts_with(b")") {
+        return None;
     }
-    out[0] = op.word;
-    Span {
+    out[0] = operator.value;
+    Some(Span {
         bytes: close + 1,
         words: next + b.words,
-    }
+    })
 }

@@ -14,10 +14,10 @@ use Rattle.policy.specs.Faults.{left_over, over_unit, code_at}
 use Rattle.policy.specs.Reading.{count_ok, length_ok, is_term, is_formed, answer, read_policy, number_of}
 use Rattle.policy.specs.Refusals.{Refusals, ◌gives◌, code}
 use Rattle.policy.specs.Accepted.{WordsOf, DecodeIsEncode, InLayout, ThreeIsNoTerm, FourIsNotFormed, IsPolicy, PolicyInLayout, PolicyIsWords, ReadIsEncode, TermIsOne, DecodeIsTerm}
-use Rattle.policy.specs.declared.Code.{Code}
-use Rattle.policy.specs.declared.Code.TheVariants.{Fault, Plain}
-use Rattle.policy.specs.declared.PolicyRead.{PolicyRead}
-use Rattle.policy.specs.declared.PolicyRead.TheVariants.{Accepted, Refused}
+use Rattle.policy.specs.Codes.{Code}
+use Rattle.policy.specs.Codes.{Fault, Plain}
+use Rattle.policy.specs.Reading.{PolicyRead}
+use Rattle.policy.specs.Reading.{Accepted, Refused}
 use Rattle.policy.proofs.Grammar.{begins_whole, decode_whole}
 use Rattle.policy.proofs.Scanning.{length-range, counts_most}
 use Rattle.policy.proofs.Encoding.{spelt, fits_begins, begins_encode, encode_ok}

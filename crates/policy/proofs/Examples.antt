@@ -3,9 +3,9 @@ use Rattle.std.proofs.Common.{◌≡◌, ℕ, List, [], ◌∷◌, map, replicat
 use Rattle.policy.specs.Codes.{WORD_COUNT, WORD, TERM, UNIT, COUNTS}
 use Rattle.policy.specs.Faults.{code_at}
 use Rattle.policy.specs.Reading.{read_policy}
-use Rattle.policy.specs.declared.Code.TheVariants.{Fault, Plain}
-use Rattle.policy.specs.declared.PolicyRead.{PolicyRead}
-use Rattle.policy.specs.declared.PolicyRead.TheVariants.{Accepted, Refused}
+use Rattle.policy.specs.Codes.{Fault, Plain}
+use Rattle.policy.specs.Reading.{PolicyRead}
+use Rattle.policy.specs.Reading.{Accepted, Refused}
 
 record Case : Type 0 where
   users : ℕ

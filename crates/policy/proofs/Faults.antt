@@ -1,5 +1,5 @@
 -- The places that the reader finds are those that the definitions say.
-use Rattle.std.proofs.Common.{◌≡◌, ℕ, ◌/◌, ◌^◌, ◌≤◌, Bool, true, false, List, [], ◌∷◌, ◌++◌, map, length, get_or, sym, refl, ap, ◌∙◌, append_assoc, append-nil, arith, ne_eqb}
+use Rattle.std.proofs.Common.{◌≡◌, ℕ, ◌/◌, ◌^◌, ◌≤◌, Bool, true, false, List, [], ◌∷◌, ◌++◌, map, length, get_or, sym, refl, ap, ◌∙◌, append_assoc, append-nil, arith}
 use mathlib.Core.List.{map-append}
 use mathlib.Core.Option.{Option, some, none}
 use Rattle.soda.specs.Bits.{number}
@@ -7,17 +7,12 @@ use Rattle.soda.specs.Lists.{first_failing}
 use Rattle.soda.specs.Terms.{Term, everyone, role, set, ¬ᵗ◌, ◌⁺, bin, unit, size, subterms, marks}
 use Rattle.soda.proofs.Bits.{half-digit, bit-number}
 use Rattle.soda.proofs.Lists.{failing_map}
-use Rattle.soda.proofs.Terms.{size_pos}
 use Rattle.policy.specs.Words.{first, decode}
 use Rattle.policy.specs.Faults.{left_over, over_unit}
-use Rattle.policy.specs.Private.{behind_first, over_units, first_in}
+use Rattle.policy.specs.Private.{over_units}
 use Rattle.policy.proofs.Grammar.{Begins, begins1, begins2, begins3, begins4, begins5, begins_op, op_sides, begins, length_begins, begins_whole}
 
 -- ── 3 ──
-pub behind-is : (x : Option Term) (n : ℕ) → behind_first (first_in x).words n ≡ left_over x n
-behind-is none n = refl
-behind-is (some φ) n = rw (ne_eqb (size φ) 0 (λ z. omega (arith, size_pos φ)))
-
 pub left-over_most : (ws : List ℕ) → left_over (first ws) (length ws) ≤ length ws
 left-over_most ws = go (first ws) refl
   where

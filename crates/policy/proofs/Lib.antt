@@ -8,4 +8,3 @@ pub mod Accepted
 pub mod Faults
 pub mod Places
 pub mod Examples
-mod Overs

@@ -18,9 +18,9 @@ use Rattle.policy.specs.Refusals.{code}
 use Rattle.policy.specs.Reading.{count_ok, length_ok, is_term, refusals, read_policy}
 use Rattle.policy.specs.Accepted.{InLayout, WordsOf}
 use Rattle.policy.specs.Places.{OneIsAtStart, FirstBad, TwoIsFirst, TermEnds, more, runs_out, ThreeIsBehind, FirstNotOver, FourIsFirst, RunOutIsUnfinished, FormedIsOver, PlaceInRange, TwoStays, AcceptedIsFaultless, CountsHaveNone, CodeHasNumber, FaultsHaveOne, OthersHaveNone, CodeOfRead}
-use Rattle.policy.specs.declared.Code.TheVariants.{Fault}
-use Rattle.policy.specs.declared.PolicyRead.{PolicyRead}
-use Rattle.policy.specs.declared.PolicyRead.TheVariants.{Accepted, Refused}
+use Rattle.policy.specs.Codes.{Fault}
+use Rattle.policy.specs.Reading.{PolicyRead}
+use Rattle.policy.specs.Reading.{Accepted, Refused}
 use Rattle.policy.proofs.Layouts.{no_kind}
 use Rattle.policy.proofs.Grammar.{Row, row1, row2, row3, row4, row5, row_op, row_of, push_op, decode-first, Begins, row_begins, begins, no, decode_missing, decode_whole, decode-more}
 use Rattle.policy.proofs.Scanning.{length-range}

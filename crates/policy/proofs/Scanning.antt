@@ -1,26 +1,27 @@
 -- What the reader answers at the words, by the first word's kind and the answers for its sides.
-use Rattle.std.proofs.Common.{◌≡◌, ℕ, zero, suc, ◌+◌, ◌*◌, ◌%◌, ◌^◌, ◌<◌, ◌≤◌, Bool, false, cond, ◌&&◌, eqb, ltb, leb, List, [], ◌∷◌, ◌++◌, map, length, get_or, drop, sym, refl, ap, ◌∙◌, ap₂, inl, inr, true≢false, arith, length-append, drop-drop, ne_eqb, leb-true}
+use Rattle.std.proofs.Common.{◌≡◌, ℕ, zero, suc, ◌+◌, ◌*◌, ◌%◌, ◌^◌, ◌<◌, ◌≤◌, Bool, false, cond, ◌&&◌, eqb, ltb, leb, List, [], ◌∷◌, ◌++◌, map, length, get_or, drop, sym, refl, ap, ◌∙◌, ap₂, inl, inr, true≢false, arith, length-append, drop-drop, eq-eqb, ne_eqb, leb-true, Some, None}
 use mathlib.Core.Bool.{So}
 use mathlib.Core.List.{map-append}
 use mathlib.Core.Option.{Option, some, none}
+use Rattle.std.proofs.lemmas.Option.{none-some}
 use lib.Bits.{bit_or}
 use lib.ListN.{length-map}
 use Rattle.soda.specs.Bits.{number}
 use Rattle.soda.specs.Lists.{from}
-use Rattle.soda.specs.Terms.{Op, Term, everyone, bin, unit, well_formed, size, subterms, marks}
+use Rattle.soda.specs.Terms.{Op, Term, bin, unit, well_formed, size, subterms, marks}
 use Rattle.soda.specs.Words.{op_kind}
 use Rattle.soda.proofs.Bools.{and_split}
 use Rattle.soda.proofs.Lists.{from-drop}
-use Rattle.soda.proofs.Terms.{size_pos, subterms-length}
+use Rattle.soda.proofs.Terms.{subterms-length}
 use Rattle.policy.specs.Words.{kind, operand, sides, known, kind_of, head, tail, push, row, first, decode}
 use Rattle.policy.specs.Reading.{count_ok}
 use Rattle.policy.specs.Accepted.{CountsInRange, LengthInRange}
 use Rattle.policy.specs.Kinds.{TOGETHER}
 use Rattle.policy.specs.Masks.{put_of}
-use Rattle.policy.specs.Private.{all_known, first_in, over_side, beside_sides}
+use Rattle.policy.specs.Private.{all_known, read_of, first_in, over_side, beside_sides}
 use Rattle.policy.specs.declared.reader.First.{First}
 use Rattle.policy.proofs.Masks.{put_is, joined}
-use Rattle.policy.proofs.Grammar.{unit_op_lem, Row, row1, row2, row3, row4, row5, row_op, Known, row_of, push_op, begins, row_begins, length_begins, decode_missing, decode-first}
+use Rattle.policy.proofs.Grammar.{unit_op_lem, Row, row1, row2, row3, row4, row5, row_op, Known, row_of, push_op, begins, row_begins, decode-first}
 
 -- ── the tests of counts and length ──
 in_range : (m n : ℕ) → So (leb 1 n && leb n m) → (1 ≤ n) × (n ≤ m)
@@ -31,11 +32,6 @@ length-range n e = in_range 31 n e
 
 pub counts_most : CountsInRange
 counts_most users roles e = let s = and_split (count_ok users) (count_ok roles) e in ((in_range 16 users s.0).1, (in_range 16 roles s.1).1)
-
--- ── the first word, and the parts as the code takes them ──
-pub no_words : (ws : List ℕ) → length ws ≡ 0 → ws ≡ []
-no_words [] h = refl
-no_words (w ∷ ws) h = absurd (omega arith)
 
 -- ── words of known kinds ──
 pub known_from : (n : ℕ) (ws : List ℕ) → So (all_known ws) → So (all_known (from n ws))
@@ -68,14 +64,6 @@ word-sided ws k n i a e q = record { inside = i; kind_row = its_row (row_of k); 
     its_row (inl r) = rw q r
     its_row (inr u) = absurd (true≢false (sym (ap known e ∙ known-first ws i a) ∙ u.0))
 
-missing_side : {k n : ℕ} → Row k n → (n ≡ 0 → ⊥) → (x : ℕ) (ts : List (Option Term)) → head ts ≡ none → head (push (kind_of k) x ts) ≡ none
-missing_side row1 z x ts e = absurd (z refl)
-missing_side row2 z x ts e = absurd (z refl)
-missing_side row3 z x ts e = absurd (z refl)
-missing_side row4 z x ts e = rw e
-missing_side row5 z x ts e = rw e
-missing_side (row_op op) z x ts e = rw (push_op op, e)
-
 missing_second : {k : ℕ} → Row k 2 → (x : ℕ) (ts : List (Option Term)) (φ : Term) → head ts ≡ some φ → head (tail ts) ≡ none
     → head (push (kind_of k) x ts) ≡ none
 missing_second (row_op op) x ts φ e d = rw (push_op op, e, d)
@@ -95,31 +83,27 @@ behind ws φ e =
     ∙ ap first (ap (drop (size φ)) (from-drop 1 ws) ∙ drop-drop (size φ) 1 ws ∙ sym (from-drop (1 + size φ) ws))
 
 -- ── the answers ──
-abbrev words_in : Option Term → ℕ
-words_in x = (first_in x).words
+found : (x : Option Term) (f : First) → Some f ≡ first_in x → (φ : Term) × (x ≡ some φ) × (f ≡ read_of φ)
+found none f e = absurd (none-some f (sym e))
+found (some φ) f e = (φ, refl, cc)
 
-found : (x : Option Term) → (words_in x ≡ 0 → ⊥) → (φ : Term) × (x ≡ some φ)
-found none n = absurd (n refl)
-found (some φ) n = (φ, refl)
-
-missing : (x : Option Term) → words_in x ≡ 0 → x ≡ none
+pub missing : (x : Option Term) → None ≡ first_in x → x ≡ none
 missing none e = refl
-missing (some φ) e = absurd (omega (arith, size_pos φ))
+missing (some φ) e = absurd (none-some (read_of φ) e)
 
-pub first-within : (ws : List ℕ) → words_in (first ws) ≤ length ws
-first-within ws = go (first ws) refl
-  where
-    go : (x : Option Term) → first ws ≡ x → words_in x ≤ length ws
-    go none e = omega arith
-    go (some φ) e = omega (arith, length_begins (begins ws φ e))
+-- what is read is of the term that the words begin with; they are that one term where it has all of them
+pub record ReadOf (ws : List ℕ) (f : First) : Type 0 where
+  pub φ : Term
+  pub begun : first ws ≡ some φ
+  pub is : f ≡ read_of φ
+  pub one : f.words ≡ length ws → decode ws ≡ some φ
+  pub more : (f.words ≡ length ws → ⊥) → decode ws ≡ none
 
--- exactly one term, from the first
-pub whole : (ws : List ℕ) → 0 < length ws → decode ws ≡ cond (eqb (words_in (first ws)) (length ws)) (first ws) none
-whole ws h = go (first ws) refl
-  where
-    go : (x : Option Term) → first ws ≡ x → decode ws ≡ cond (eqb (words_in x) (length ws)) x none
-    go none e = decode_missing ws e ∙ rw (ne_eqb 0 (length ws) (λ z. omega arith))
-    go (some φ) e = decode-first ws φ e
+pub whole : (ws : List ℕ) (f : First) → Some f ≡ first_in (first ws) → ReadOf ws f
+whole ws f e =
+    let r = found (first ws) f e in
+    let d = decode-first ws r.0 r.1 ∙ ap (λ (f : First). cond (eqb f.words (length ws)) (some r.0) none) (sym r.2) in
+    record { φ = r.0; begun = r.1; is = r.2; one = λ n. d ∙ rw (eq-eqb _ _ n); more = λ n. d ∙ rw (ne_eqb _ _ n) }
 
 -- what is read of a word over its sides is what is read of the term
 marked : (φ : Term) → length (map unit (subterms φ)) ≡ size φ
@@ -139,7 +123,7 @@ beside_units b φ ψ h =
     ∙ put_is b (l ++ m) (omega (arith, length-append l m, marked φ, marked ψ))
     ∙ ap (λ (k : List Bool). number (b ∷ k)) (sym (map-append unit (subterms φ) (subterms ψ)))
 
-beside_is : (op : Op) (φ ψ : Term) → size φ + size ψ ≤ 31 → beside_sides (op_kind op) (first_in (some φ)) (first_in (some ψ)) ≡ first_in (some (bin op φ ψ))
+beside_is : (op : Op) (φ ψ : Term) → size φ + size ψ ≤ 31 → beside_sides (op_kind op) (read_of φ) (read_of ψ) ≡ read_of (bin op φ ψ)
 beside_is op φ ψ h =
     let u : (ltb (op_kind op) TOGETHER && (unit φ && unit ψ)) ≡ unit (bin op φ ψ) = ap (λ (b : Bool). b && (unit φ && unit ψ)) (unit_op_lem op) in
     let n : 1 + size φ + size ψ ≡ size (bin op φ ψ) = omega arith in
@@ -155,46 +139,32 @@ module _ (ws : List ℕ) {k n : ℕ} (W : Word ws k n) where
   abbrev rest : List (Option Term)
   rest = row (from 1 ws)
 
-  pub scan_leaf : n ≡ 0 → first_in (some everyone) ≡ first_in (first ws)
-  scan_leaf z = rw W.is (go (rw z at W.kind_row))
-    where
-      go : {j : ℕ} → Row j 0 → first_in (some everyone) ≡ first_in (head (push (kind_of j) (operand (get_or ws 0 0)) rest))
-      go row1 = refl
-      go row2 = refl
-      go row3 = refl
-
-  pub scan_missing : (n ≡ 0 → ⊥) → words_in (first (from 1 ws)) ≡ 0 → first_in none ≡ first_in (first ws)
-  scan_missing z e = rw (W.is, missing_side W.kind_row z (operand (get_or ws 0 0)) rest (missing (first (from 1 ws)) e))
-
-  module _ (a : First) (A : a ≡ first_in (first (from 1 ws))) (is : a.words ≡ 0 → ⊥) where
-    side : (φ : Term) × (first (from 1 ws) ≡ some φ)
-    side = found (first (from 1 ws)) (λ e. is (ap (λ (f : First). f.words) A ∙ e))
-
-    side_is : a ≡ first_in (some side.0)
-    side_is = A ∙ ap first_in side.1
+  module _ (a : First) (A : Some a ≡ first_in (first (from 1 ws))) where
+    side : (φ : Term) × (first (from 1 ws) ≡ some φ) × (a ≡ read_of φ)
+    side = found (first (from 1 ws)) a A
 
     size_is : a.words ≡ size side.0
-    size_is = ap (λ (f : First). f.words) side_is
+    size_is = ap (λ (f : First). f.words) side.2
 
-    pub scan_one : n ≡ 1 → a.words ≤ 31 → over_side k a ≡ first_in (first ws)
-    scan_one z h = ap (over_side k) side_is ∙ rw W.is (go (rw z at W.kind_row))
+    pub scan_one : n ≡ 1 → a.words ≤ 31 → Some (over_side k a) ≡ first_in (first ws)
+    scan_one z h = ap (λ (f : First). Some (over_side k f)) side.2 ∙ rw W.is (go (rw z at W.kind_row))
       where
         short : size side.0 ≤ 31
         short = omega (arith, size_is)
 
-        go : {j : ℕ} → Row j 1 → over_side j (first_in (some side.0)) ≡ first_in (head (push (kind_of j) (operand (get_or ws 0 0)) rest))
-        go row4 = rw side.1 λ i. record {
+        go : {j : ℕ} → Row j 1 → Some (over_side j (read_of side.0)) ≡ first_in (head (push (kind_of j) (operand (get_or ws 0 0)) rest))
+        go row4 = rw side.1 λ i. Some (record {
           words = 1 + size side.0;
           unit = unit side.0;
           formed = unit side.0 && well_formed side.0;
           units = over-units (unit side.0) side.0 short i;
-        }
-        go row5 = rw side.1 λ i. record {
+        })
+        go row5 = rw side.1 λ i. Some (record {
           words = 1 + size side.0;
           unit = false;
           formed = unit side.0 && well_formed side.0;
           units = over-units false side.0 short i;
-        }
+        })
 
     second : head (tail rest) ≡ first (from (1 + a.words) ws)
     second = rw size_is (behind ws side.0 side.1)
@@ -203,23 +173,20 @@ module _ (ws : List ℕ) {k n : ℕ} (W : Word ws k n) where
       both-sides : Row k 2
       both-sides = two-sides W.kind_row z o
 
-      pub scan_missing_second : words_in (first (from (1 + a.words) ws)) ≡ 0 → first_in none ≡ first_in (first ws)
+      pub scan_missing_second : None ≡ first_in (first (from (1 + a.words) ws)) → None ≡ first_in (first ws)
       scan_missing_second e =
           rw (W.is, missing_second both-sides (operand (get_or ws 0 0)) rest side.0 side.1 (second ∙ missing (first (from (1 + a.words) ws)) e))
 
-      pub scan_two : (b : First) → b ≡ first_in (first (from (1 + a.words) ws)) → (b.words ≡ 0 → ⊥) → a.words + b.words ≤ 31
-          → beside_sides k a b ≡ first_in (first ws)
-      scan_two b B t h = ap₂ (beside_sides k) side_is other-is ∙ rw W.is (go both-sides)
+      pub scan_two : (b : First) → Some b ≡ first_in (first (from (1 + a.words) ws)) → a.words + b.words ≤ 31
+          → Some (beside_sides k a b) ≡ first_in (first ws)
+      scan_two b B h = ap₂ (λ (f g : First). Some (beside_sides k f g)) side.2 other.2 ∙ rw W.is (go both-sides)
         where
-          other : (ψ : Term) × (first (from (1 + a.words) ws) ≡ some ψ)
-          other = found (first (from (1 + a.words) ws)) (λ e. t (ap (λ (f : First). f.words) B ∙ e))
-
-          other-is : b ≡ first_in (some other.0)
-          other-is = B ∙ ap first_in other.1
+          other : (ψ : Term) × (first (from (1 + a.words) ws) ≡ some ψ) × (b ≡ read_of ψ)
+          other = found (first (from (1 + a.words) ws)) b B
 
           short : size side.0 + size other.0 ≤ 31
-          short = omega (arith, size_is, ap (λ (f : First). f.words) other-is)
+          short = omega (arith, size_is, ap (λ (f : First). f.words) other.2)
 
           go : {j : ℕ} → Row j 2
-              → beside_sides j (first_in (some side.0)) (first_in (some other.0)) ≡ first_in (head (push (kind_of j) (operand (get_or ws 0 0)) rest))
-          go (row_op op) = rw (push_op op, side.1, second ∙ other.1) (beside_is op side.0 other.0 short)
+              → Some (beside_sides j (read_of side.0) (read_of other.0)) ≡ first_in (head (push (kind_of j) (operand (get_or ws 0 0)) rest))
+          go (row_op op) = rw (push_op op, side.1, second ∙ other.1) (ap (λ (f : First). Some f) (beside_is op side.0 other.0 short))

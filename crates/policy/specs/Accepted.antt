@@ -8,7 +8,7 @@ use Rattle.soda.specs.Words.{word, op_kind, encode, fits, declared}
 use Rattle.policy.specs.Codes.{TERM, UNIT}
 use Rattle.policy.specs.Words.{kind, operand, sides, term_sides, word_ok, decode}
 use Rattle.policy.specs.Reading.{count_ok, length_ok, read_policy, number_of}
-use Rattle.policy.specs.declared.PolicyRead.TheVariants.{Accepted}
+use Rattle.policy.specs.Reading.{Accepted}
 
 -- ── words ──
 -- A word is its kind and its operand, which has 16 bits; an operator has two sides ..

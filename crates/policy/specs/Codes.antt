@@ -1,4 +1,4 @@
--- Document 01's numbers ("Numbers, by who causes them") and those that document 02 adds. src/codes.rt has the same under the same names, with _ for -.
+-- Document 01's numbers ("Numbers, by who causes them") and those that document 02 adds. `Refusal` of src has each as a case.
 use Rattle.std.specs.Prelude.{ℕ}
 
 -- acceptance
@@ -91,3 +91,10 @@ CASE = 14
 -- ones not zero
 abbrev pub MONITOR : ℕ
 MONITOR = 15
+
+-- ── codes ──
+-- the code of a call that reads a policy (document 02, E2: point at the bad word): the number of a policy's fault, 1 to 4, with the fault's
+-- place among the words, counted from 0; or another number, which has no place
+pub data Code : Type 0 where
+  Fault : ℕ → ℕ → Code
+  Plain : ℕ → Code

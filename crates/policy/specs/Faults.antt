@@ -3,10 +3,8 @@ use Rattle.std.specs.Prelude.{ℕ, Bool, true, cond, ◌&&◌, List, length, ◌
 use Rattle.std.proofs.Math.Option.{Option, some, none}
 use Rattle.soda.specs.Lists.{first_failing}
 use Rattle.soda.specs.Terms.{Term, everyone, role, set, ¬ᵗ◌, ◌⁺, bin, unit, size, subterms}
-use Rattle.policy.specs.Codes.{WORD_COUNT, WORD, TERM, UNIT}
+use Rattle.policy.specs.Codes.{WORD_COUNT, WORD, TERM, UNIT, Code, Fault, Plain}
 use Rattle.policy.specs.Words.{word_ok, first, decode}
-use Rattle.policy.specs.declared.Code.{Code}
-use Rattle.policy.specs.declared.Code.TheVariants.{Fault, Plain}
 
 -- ── places ──
 -- of 3: the first word left over, behind the term that the words begin with; where they begin with none they run out: the word count

@@ -10,8 +10,8 @@ use Rattle.policy.specs.Faults.{over_unit, place_of, code_at, code_number}
 use Rattle.policy.specs.Reading.{count_ok, length_ok, refusals, read_policy, code_read}
 use Rattle.policy.specs.Refusals.{code}
 use Rattle.policy.specs.Accepted.{InLayout, WordsOf}
-use Rattle.policy.specs.declared.Code.TheVariants.{Fault, Plain}
-use Rattle.policy.specs.declared.PolicyRead.TheVariants.{Accepted, Refused}
+use Rattle.policy.specs.Codes.{Fault, Plain}
+use Rattle.policy.specs.Reading.{Accepted, Refused}
 
 -- ── where each number points ──
 -- 1 points at the start.

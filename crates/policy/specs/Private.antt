@@ -1,5 +1,6 @@
 -- What the crate's own functions answer: tests of words, places, and the first term of some words.
-use Rattle.std.specs.Prelude.{ℕ, ◌+◌, ◌-◌, ◌*◌, ◌/◌, ◌%◌, ◌^◌, Bool, false, cond, not, ◌&&◌, ◌||◌, List, [], ◌∷◌, ◌==◌, bit_or, nat_lt}
+use Rattle.std.specs.Prelude.{ℕ, ◌+◌, ◌-◌, ◌*◌, ◌/◌, ◌%◌, ◌^◌, Bool, not, ◌&&◌, ◌||◌, List, [], ◌∷◌, ◌==◌, bit_or, nat_lt}
+use Rattle.std.specs.Prelude.{Option as Maybe, Some, None}
 use Rattle.std.proofs.Math.Option.{Option, some, none}
 use Rattle.soda.specs.Lists.{all}
 use Rattle.soda.specs.Bits.{bit}
@@ -12,27 +13,22 @@ use Rattle.policy.specs.declared.reader.First.{First}
 abbrev pub all_known : List ℕ → Bool
 all_known ws = all (λ w. known (kind w)) ws
 
--- for each kind of 01's table, the least word that may be in the layout, and how many are from it on
-abbrev pub least_words : List ℕ
-least_words =
-    0 ∷ 2 ^ 24 ∷ (2 * 2 ^ 24) ∷ (3 * 2 ^ 24 + 1) ∷ (4 * 2 ^ 24) ∷ (5 * 2 ^ 24) ∷ (6 * 2 ^ 24) ∷ (7 * 2 ^ 24) ∷ (8 * 2 ^ 24) ∷ (9 * 2 ^ 24) ∷ []
-
+-- for each kind of 01's table, how many words are in the layout and name only what is declared: they follow one another
 abbrev pub rooms_of : ℕ → ℕ → List ℕ
 rooms_of users roles = 0 ∷ 1 ∷ roles ∷ (2 ^ users - 1) ∷ 1 ∷ 1 ∷ 1 ∷ 1 ∷ 1 ∷ 1 ∷ []
-
--- the place behind the first term, which has so many words; where there is none, behind all n words
-abbrev pub behind_first : ℕ → ℕ → ℕ
-behind_first first n = cond (first == 0) n first
 
 -- for each word, whether it has another number of sides than one, or its side, at the next word, is a unit term by the mask of those
 abbrev pub over_units : ℕ → List ℕ → List Bool
 over_units units [] = []
 over_units units (w ∷ ws) = (not (sides (kind w) == 1) || bit 0 (units / 2 ^ 1)) ∷ over_units (units / 2 ^ 1) ws
 
--- what is read of the first term of some words; nothing for none
-abbrev pub first_in : Option Term → First
-first_in none = record { words = 0; unit = false; formed = false; units = 0 }
-first_in (some φ) = record { words = size φ; unit = unit φ; formed = well_formed φ; units = marks unit φ }
+-- what is read of a term, and of the first term of some words, if there is one
+abbrev pub read_of : Term → First
+read_of φ = record { words = size φ; unit = unit φ; formed = well_formed φ; units = marks unit φ }
+
+abbrev pub first_in : Option Term → Maybe First
+first_in none = None
+first_in (some φ) = Some (read_of φ)
 
 -- not or plus over a side
 abbrev pub over_side : ℕ → First → First

@@ -1,16 +1,15 @@
 -- Reading a policy (document 01: 5, then 1 to 4).
-use Rattle.std.specs.Prelude.{ℕ, Bool, true, false, cond, not, ◌&&◌, List, [], ◌∷◌, length, ◌==◌, nat_le}
+use Rattle.std.specs.Prelude.{ℕ, Bool, true, false, cond, not, ◌&&◌, List, [], ◌∷◌, length, ◌==◌, nat_le, Result, Ok, Err}
 use Rattle.std.proofs.Math.Option.{Option, some, none}
 use Rattle.soda.specs.Lists.{all}
 use Rattle.soda.specs.Terms.{Term, unit, well_formed, marks}
-use Rattle.policy.specs.Codes.{ACCEPTED, WORD_COUNT, WORD, TERM, UNIT, COUNTS}
+use Rattle.policy.specs.Codes.{ACCEPTED, WORD_COUNT, WORD, TERM, UNIT, COUNTS, Code, Plain}
 use Rattle.policy.specs.Refusals.{Refusals, ◌gives◌, code}
 use Rattle.policy.specs.Words.{word_ok, decode}
 use Rattle.policy.specs.Faults.{code_at, code_number}
-use Rattle.policy.specs.declared.Code.{Code}
-use Rattle.policy.specs.declared.Code.TheVariants.{Plain}
-use Rattle.policy.specs.declared.PolicyRead.{PolicyRead}
-use Rattle.policy.specs.declared.PolicyRead.TheVariants.{Accepted, Refused}
+use Rattle.policy.specs.Answers.{code_of}
+use Rattle.policy.specs.declared.Policy.{Policy}
+use Rattle.policy.specs.declared.refusal.Refusal.{Refusal}
 
 -- users and roles are each 1 to 16
 abbrev pub count_ok : ℕ → Bool
@@ -49,6 +48,10 @@ units_of none = 0
 units_of (some φ) = marks unit φ
 
 -- the answer: the word count and that mask, or a code with nothing else
+pub data PolicyRead : Type 0 where
+  Accepted : ℕ → ℕ → PolicyRead
+  Refused : Code → PolicyRead
+
 abbrev pub answer : ℕ → ℕ → List ℕ → ℕ → PolicyRead
 answer users roles ws k = cond (k == ACCEPTED) (Accepted (length ws) (units_of (decode ws))) (Refused (code_at users roles ws k))
 
@@ -62,3 +65,8 @@ code_read (Refused c) = c
 
 abbrev pub number_of : PolicyRead → ℕ
 number_of a = code_number (code_read a)
+
+-- what `read` of src answers
+abbrev pub as_read : Result Policy Refusal → PolicyRead
+as_read (Ok p) = Accepted p.words p.units
+as_read (Err r) = Refused (code_of r)

@@ -1,29 +1,21 @@
 // The recursive reader: the first term of the words, from its sides.
-ghost use Rattle.std.specs.Prelude.{◌≡◌, ◌+◌, ◌≤◌, length};
+ghost use Rattle.std.specs.Prelude.{◌≡◌, ◌+◌, ◌≤◌, IfSome, length};
 ghost use Rattle.std.proofs.Math.Bool.{So};
 ghost use Rattle.policy.specs.Words.{first};
 ghost use Rattle.policy.specs.Private.{all_known, first_in, over_side, beside_sides};
 
-use super::kinds;
+use super::kinds::Kind;
 use super::words::{kind_of, put, sides_of};
 
-// What is read of the first term of some words: how many words it has, 0 if they begin with none; whether it is a unit term, and well
-// formed; and those of its words that begin unit terms.
-#[derive(Clone, Copy)]
+// What is read of the first term of some words: how many words it has; whether it is a unit term, and well formed; and those of its words
+// that begin unit terms.
+#[derive(Clone, Copy, Debug, PartialEq, Eq)]
 pub(crate) struct First {
     pub words: usize,
     pub unit: bool,
     pub formed: bool,
     pub units: u32,
 }
-
-// The words begin with no term.
-const NO_TERM: First = First {
-    words: 0,
-    unit: false,
-    formed: false,
-    units: 0,
-};
 
 // A term of one word.
 const ONE_WORD: First = First {
@@ -33,12 +25,12 @@ const ONE_WORD: First = First {
     units: 1,
 };
 
-// Not (kind 4) or plus (kind 5) over a side.
+// Not (kind 4) or plus (kind 5) over a side. Here and below the kind is a number, since document 02's rule goes by the order of the kinds.
 fn over_side(k: usize, a: First) -> First
     requires { a.words ≤ 30 }
     ensures { result ≡ over_side k a }
 {
-    let unit = (k == kinds::NOT) & a.unit;
+    let unit = (k == Kind::Not as usize) & a.unit;
     First {
         words: 1 + a.words,
         unit,
@@ -52,7 +44,7 @@ fn beside_sides(k: usize, a: First, b: First) -> First
     requires { a.words + b.words ≤ 30 }
     ensures { result ≡ beside_sides k a b }
 {
-    let unit = (k < kinds::TOGETHER) & (a.unit & b.unit);
+    let unit = (k < Kind::Together as usize) & (a.unit & b.unit);
     First {
         words: 1 + a.words + b.words,
         unit,
@@ -63,41 +55,36 @@ fn beside_sides(k: usize, a: First, b: First) -> First
 
 // Reads the first term of the words, a side of another: a term of one word is read without a call.
 #[cycle(scan_side)]
-fn side(words: &[u32]) -> First
+#[inline]
+fn side(words: &[u32]) -> Option<First>
     requires { (length words.now ≤ 31) × So (all_known words.now) }
-    ensures { result ≡ first_in (first words.now) }
+    ensures first { result ≡ first_in (first words.now) }
+    ensures within { IfSome result (λ term. term.words ≤ length words.now) }
 {
-    if words.len() == 0 {
-        return NO_TERM;
-    }
-    if sides_of(kind_of(words[0])) == 0 {
-        return ONE_WORD;
+    let word = *words.first()?;
+    if sides_of(kind_of(word)) == 0 {
+        return Some(ONE_WORD);
     }
     scan(words)
 }
 
 // Reads the first term of the words. None of them is of an unknown kind, which would have sides by the rule but begins no term.
 #[cycle(scan_side)]
-pub(crate) fn scan(words: &[u32]) -> First
+pub(crate) fn scan(words: &[u32]) -> Option<First>
     requires { (1 ≤ length words.now) × (length words.now ≤ 31) × So (all_known words.now) }
-    ensures { result ≡ first_in (first words.now) }
+    ensures first { result ≡ first_in (first words.now) }
+    ensures within { IfSome result (λ term. term.words ≤ length words.now) }
 {
     let k = kind_of(words[0]);
     let n = sides_of(k);
     if n == 0 {
-        return ONE_WORD;
+        return Some(ONE_WORD);
     }
-    let a = side(&words[1..]);
-    if a.words == 0 {
-        return NO_TERM;
-    }
+    let a = side(&words[1..])?;
     if n == 1 {
-        return over_side(k, a);
+        return Some(over_side(k, a));
     }
     let second = 1 + a.words;
-    let b = side(&words[second..]);
-    if b.words == 0 {
-        return NO_TERM;
-    }
-    beside_sides(k, a, b)
+    let b = side(&words[second..])?;
+    Some(beside_sides(k, a, b))
 }

@@ -1,94 +1,59 @@
 // Reading a policy, and the place of its fault.
-ghost use Rattle.std.specs.Prelude.{◌≡◌, ◌≤◌};
+ghost use Rattle.std.specs.Prelude.{◌≡◌, ◌≤◌, length};
 ghost use Rattle.soda.specs.Lists.{first_failing};
-ghost use Rattle.policy.specs.Faults.{code_number};
-ghost use Rattle.policy.specs.Reading.{code_read, read_policy};
-ghost use Rattle.policy.specs.Private.{behind_first, over_units};
-ghost use Rattle.policy.specs.declared.Code.TheVariants.{Fault};
-ghost use Rattle.policy.specs.declared.PolicyRead.TheVariants.{Refused};
+ghost use Rattle.policy.specs.Reading.{as_read, read_policy};
+ghost use Rattle.policy.specs.Private.{over_units};
 
 use super::reader::scan;
 use super::words::{bad_word, counts_ok, kind_of, length_ok, sides_of};
-use super::{Code, PolicyRead, codes};
-
-// A policy's fault.
-fn fault(number: u8, place: usize) -> PolicyRead
-    requires { place ≤ 31 }
-    ensures { result ≡ Refused (Fault number place) }
-{
-    PolicyRead::Refused(Code::Fault {
-        number,
-        place: place as u8,
-    })
-}
-
-// The place behind the first term; where there is none, the words, n in all, run out.
-fn behind_first(first: usize, n: usize) -> usize
-    ensures { result ≡ behind_first first n }
-{
-    if first == 0 { n } else { first }
-}
+use super::{Policy, Refusal};
 
 // The place of the first not or plus that stands over no unit term, by the mask of the words that begin unit terms; the word count if there
-// is none.
+// is none, which is no case of its own since the reader asks only where there is one. The mask moves along with the words, which no chain
+// of iterators carries.
 fn not_over_unit(words: &[u32], units: u32) -> usize
-    ensures { result ≡ first_failing (λ b. b) (over_units units words.now) }
+    ensures place { result ≡ first_failing (λ b. b) (over_units units words.now) }
+    ensures inside { result ≤ length words.now }
 {
     let mut rest = units;
-    let mut i = 0;
-    while i < words.len() {
+    for (i, &word) in words.iter().enumerate() {
         rest = rest >> 1;
-        if (sides_of(kind_of(words[i])) == 1) & (rest & 1 != 1) {
+        if (sides_of(kind_of(word)) == 1) & (rest & 1 != 1) {
             return i;
         }
-        i += 1;
     }
-    i
+    words.len()
 }
 
 // Reads a policy. Any counts and any words are answered.
-pub fn read(users: u8, roles: u8, words: &[u32]) -> PolicyRead
-    ensures { result ≡ read_policy users roles words.now }
+pub fn read(users: u8, roles: u8, words: &[u32]) -> Result<Policy, Refusal>
+    ensures { as_read result ≡ read_policy users roles words.now }
 {
     if !counts_ok(users, roles) {
-        return PolicyRead::Refused(Code::Plain(codes::COUNTS));
+        return Err(Refusal::Counts);
     }
     if !length_ok(words.len()) {
-        return fault(codes::WORD_COUNT, 0);
+        return Err(Refusal::WordCount);
     }
-    let bad = bad_word(users, roles, words);
-    if bad != words.len() {
-        return fault(codes::WORD, bad);
+    if let Some(bad) = bad_word(users, roles, words) {
+        return Err(Refusal::Word { place: bad as u8 });
     }
-    let t = scan(words);
-    if t.words != words.len() {
-        return fault(codes::TERM, behind_first(t.words, words.len()));
+    // where no term is read the words run out
+    let term = scan(words).ok_or(Refusal::Term {
+        place: words.len() as u8,
+    })?;
+    if term.words != words.len() {
+        return Err(Refusal::Term {
+            place: term.words as u8,
+        });
     }
-    if !t.formed {
-        return fault(codes::UNIT, not_over_unit(words, t.units));
+    if !term.formed {
+        return Err(Refusal::Unit {
+            place: not_over_unit(words, term.units) as u8,
+        });
     }
-    PolicyRead::Accepted {
+    Ok(Policy {
         words: words.len(),
-        units: t.units,
-    }
-}
-
-// The code of a reader's answer.
-pub fn code_of(answer: PolicyRead) -> Code
-    ensures { result ≡ code_read answer }
-{
-    match answer {
-        PolicyRead::Accepted { words: _, units: _ } => Code::Plain(codes::ACCEPTED),
-        PolicyRead::Refused(code) => code,
-    }
-}
-
-// The number of a code.
-pub fn number_of(code: Code) -> u8
-    ensures { result ≡ code_number code }
-{
-    match code {
-        Code::Fault { number, place: _ } => number,
-        Code::Plain(number) => number,
-    }
+        units: term.units,
+    })
 }

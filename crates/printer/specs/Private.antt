@@ -1,34 +1,31 @@
 -- The contracts of private functions: text put at an output's start.
-use Rattle.std.specs.Prelude.{◌≡◌, cond, List, ◌++◌, ℕ, ◌≤◌, ◌<◌, eqb, length}
+use Rattle.std.specs.Prelude.{◌≡◌, List, ◌++◌, ℕ, ◌≤◌, ◌<◌, length}
 use Rattle.std.proofs.Math.Bool.{So}
 use Rattle.soda.specs.Terms.{Term, size}
 use Rattle.soda.specs.Words.{encode, declared}
-use Rattle.policy.specs.Kinds.{EVERYONE, ROLE, NOT, PLUS, EITHER, BOTH, TOGETHER}
-use Rattle.policy.specs.Words.{kind, operand}
+use Rattle.policy.specs.Words.{Kind, everyone_k, role_k, not_k, plus_k, op_k}
 use Rattle.text.specs.Puts.{Put}
-use Rattle.text.specs.Texts.{ascii, numeral, set_text, text, policy_text}
+use Rattle.text.specs.Texts.{ascii, numeral, set_text, op_text, text, policy_text}
 use Rattle.text.specs.declared.Span.{Span}
 
 -- what stands before a first side, and between two, by the kind of the word
-abbrev pub head_text : ℕ → List ℕ
-head_text k = cond (eqb k NOT) (ascii "not ") (cond (eqb k PLUS) (ascii "plus ") (ascii "("))
+abbrev pub head_text : Kind → List ℕ
+head_text not_k = ascii "not "
+head_text plus_k = ascii "plus "
+head_text _ = ascii "("
 
-abbrev pub operator_text : ℕ → List ℕ
-operator_text k =
-    cond (eqb k EITHER) (ascii " or ")
-    (cond (eqb k BOTH) (ascii " both ")
-    (cond (eqb k TOGETHER) (ascii " with ")
-    (ascii " apart ")))
+abbrev pub operator_text : Kind → List ℕ
+operator_text (op_k op) = op_text op
+operator_text _ = ascii " apart "
 
 -- a term of one word; a role's number is at most 15
-unfoldable pub leaf_text : ℕ → List ℕ
-leaf_text w =
-    cond (eqb (kind w) EVERYONE) (ascii "all")
-    (cond (eqb (kind w) ROLE) (ascii "r" ++ numeral (operand w))
-    (set_text (operand w)))
+abbrev pub leaf_text : Kind → ℕ → List ℕ
+leaf_text everyone_k x = ascii "all"
+leaf_text role_k x = ascii "r" ++ numeral x
+leaf_text _ x = set_text x
 
-abbrev pub NamesLeaf : ℕ → Type 0
-NamesLeaf w = kind w ≡ ROLE → operand w < 16
+abbrev pub NamesLeaf : Kind → ℕ → Type 0
+NamesLeaf k x = k ≡ role_k → x < 16
 
 -- the words begin with those of a term, for whose text n bytes are room
 pub record Spelt (ws : List ℕ) (n : ℕ) : Type 0 where

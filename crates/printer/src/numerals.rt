@@ -9,10 +9,10 @@ pub(crate) fn put_numeral(n: u8, out: &mut [u8]) -> usize
     ensures { Put (numeral n) out.old result out.new }
 {
     if n < 10 {
-        out[0] = 48 + n;
+        out[0] = b'0' + n;
         return 1;
     }
-    out[0] = 49;
-    out[1] = 38 + n;
+    out[0] = b'1';
+    out[1] = b'0' + (n - 10);
     2
 }

@@ -12,15 +12,13 @@ pub(crate) fn put_set(mask: u32, out: &mut [u8]) -> usize
 {
     let mut n = 0;
     let mut sign = b'{';
-    let mut user: u8 = 0;
-    while user < 16 {
+    for user in 0..16 {
         if (mask >> user) & 1 == 1 {
             out[n] = sign;
             n += 1;
             n += put_numeral(user, &mut out[n..]);
             sign = b',';
         }
-        user += 1;
     }
     out[n] = b'}';
     n + 1

@@ -1,12 +1,13 @@
 // The call that writes a text.
 ghost use Rattle.std.specs.Prelude.{◌≡◌, length};
+ghost use Rattle.text.specs.Reading.{as_converted};
 ghost use Rattle.text.specs.Writing.{write_answer, write_out};
 ghost use Rattle.printer.specs.Private.{PolicySpelt, PolicyPut};
 
 use super::bytes;
 use super::writer::put_term;
-use policy::{Code, PolicyRead, codes};
-use text::{Converted, OPENING};
+use policy::Refusal;
+use text::OPENING;
 
 // Writes the policy's text at the start of out, and answers how many bytes it has.
 fn put_text(words: &[u32], out: &mut [u8]) -> usize
@@ -19,20 +20,17 @@ fn put_text(words: &[u32], out: &mut [u8]) -> usize
 }
 
 // Writes a policy's text at the start of out. Any counts, any words and any output are answered.
-pub fn write_text(users: u8, roles: u8, words: &[u32], out: &mut [u8]) -> Converted
-    ensures value { result ≡ write_answer users roles words.now (length out.old) }
+pub fn write_text(users: u8, roles: u8, words: &[u32], out: &mut [u8]) -> Result<usize, Refusal>
+    ensures value { as_converted result ≡ write_answer users roles words.now (length out.old) }
     ensures out_after { out.new ≡ write_out users roles words.now out.old }
 {
-    let answer = policy::read(users, roles, words);
-    let PolicyRead::Accepted { words: _, units: _ } = answer else {
-        return Converted::Refused(policy::code_of(answer));
-    };
+    policy::read(users, roles, words)?;
     // the longest text of a policy has so many bytes: 16 sets of 16 users, apart
     let mut text = [0u8; 767];
     let n = put_text(words, &mut text);
     if out.len() < n {
-        return Converted::Refused(Code::Plain(codes::OUTPUT));
+        return Err(Refusal::Output);
     }
     bytes::copy(&text[..n], out);
-    Converted::Written(n)
+    Ok(n)
 }

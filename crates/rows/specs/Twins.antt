@@ -1,10 +1,5 @@
--- Actions that are alike, and sets that differ in such actions only.
-use Rattle.std.specs.Prelude.{ℕ, ◌+◌, ◌-◌, ◌%◌, ◌^◌, Bool, cond, ◌&&◌, ◌==◌, bit_and, nat_lt}
-use Rattle.soda.specs.declared.Action.{Action}
-
--- by one user, who met the same unit terms
-abbrev pub is_alike : Action → Action → Bool
-is_alike a b = a.user == b.user && a.met == b.met
+-- Sets that differ only in actions that are alike: by one user, who met the same unit terms.
+use Rattle.std.specs.Prelude.{ℕ, ◌+◌, ◌-◌, ◌%◌, ◌^◌, cond, ◌==◌, bit_and, nat_lt}
 
 -- the places of `alike` that t lacks, and the first place of a set
 abbrev pub spare_of : ℕ → ℕ → ℕ

@@ -1,17 +1,9 @@
 // Twins: two sets whose actions are the same but for their places. Actions by one user that met the same unit terms are alike, and a
 // set with one of them for another has the same row.
 ghost use Rattle.std.specs.Prelude.{◌≡◌};
-ghost use Rattle.rows.specs.Twins.{is_alike, twin_of};
+ghost use Rattle.rows.specs.Twins.{twin_of};
 
-use soda::Action;
 use std::num;
-
-// Whether two actions are alike.
-pub fn is_alike(a: Action, b: Action) -> bool
-    ensures { result ≡ is_alike a b }
-{
-    (a.user == b.user) & (a.met == b.met)
-}
 
 // A twin of the set top + t that is entered before it, or that set. Its last action is alike those at the places of alike: a twin is
 // t with the first of them that t lacks, and so is that action with a smaller twin of t. Sums wrap, so that it is total.

@@ -7,18 +7,15 @@ use Prim.Native.Nat.{ℕ, zero, suc, ◌+◌, ◌-◌, ◌≤◌, ◌<◌}
 use native.Mathlib.Nat.{eq-or-lt_of_le}
 use native.Mathlib.Numerals.{one-add, unary_clauses}
 use native.Mathlib.Omega.{arith}
-use lib.Dec.{leb, ltb}
+use lib.Dec.{eqb}
 use lib.ListN.{length, get_or, take, drop, set, replicate, take-append-drop, length-drop, length-set}
 use lib.Seq.{drop-cons, drop-nil, drop-drop, drop-set-lt, get_or-set_same, get_or-set_other, length-take-le, lt-length-set, take-add}
-use borrow.Author.Tests.{lt-ltb, le-ltb, le-leb, lt-leb}
 use Rattle.soda.specs.Terms.{Op, Term, bin, size}
 use Rattle.soda.proofs.Terms.{size_pos}
-use Rattle.soda.proofs.Words.{op_high}
-use Rattle.policy.specs.Kinds.{NOT, EITHER}
-use Rattle.policy.specs.Words.{kind}
+use Rattle.policy.specs.Words.{kind, sides}
 use Rattle.shape.specs.Shapes.{right_sides}
 use Rattle.shape.specs.Private.{RightsOf}
-use Rattle.policy.proofs.Grammar.{Begins, begins1, begins2, begins3, begins4, begins5, begins_op, length_begins, drop_begins, begins_whole}
+use Rattle.policy.proofs.Grammar.{op_sides, Begins, begins1, begins2, begins3, begins4, begins5, begins_op, length_begins, drop_begins, begins_whole}
 
 pub zeros : (n i : ℕ) → get_or {A = ℕ} (replicate n 0) i 0 ≡ 0
 zeros zero i = refl
@@ -67,10 +64,10 @@ begin ws h = record {
   terms = λ j {φ} l b. absurd (omega (arith, length_begins b, length-drop j ws, size_pos φ));
 }
 
--- one word more: the word k is of kind κ, r and e are entered for it
-module _ (ws right end : List ℕ) (i k κ r e : ℕ) (short : length ws ≤ 31) (inside : k < length ws) (down : i ≡ 1 + k)
-    (D : Done ws right end i) (κ-is : κ ≡ kind (get_or ws k 0))
-    (r-is : r ≡ cond (leb EITHER κ) (get_or end i 0) i) (e-is : e ≡ cond (ltb κ NOT) i (get_or end r 0)) where
+-- one word more: the word k has n sides, r and e are entered for it
+module _ (ws right end : List ℕ) (i k n r e : ℕ) (short : length ws ≤ 31) (inside : k < length ws) (down : i ≡ 1 + k)
+    (D : Done ws right end i) (n-is : n ≡ sides (kind (get_or ws k 0)))
+    (r-is : r ≡ cond (eqb n 2) (get_or end i 0) i) (e-is : e ≡ cond (eqb n 0) i (get_or end r 0)) where
   abbrev Here : Term → Type 0
   Here φ = Sided (set right k r) (set end k e) k φ
 
@@ -80,29 +77,29 @@ module _ (ws right end : List ℕ) (i k κ r e : ℕ) (short : length ws ≤ 31)
     rights = rw (s, drop-set right k r (omega (arith, D.long.0)), one-add m, q) (sym t);
   }
 
-  leaf : (φ : Term) → κ < NOT → size φ ≡ 1 → right_sides k φ ≡ (1 + k) ∷ [] → Here φ
+  leaf : (φ : Term) → n ≡ 0 → size φ ≡ 1 → right_sides k φ ≡ (1 + k) ∷ [] → Here φ
   leaf φ z s t =
-      let p : r ≡ 1 + k = r-is ∙ rw (lt-leb EITHER κ (omega arith)) down in
-      let q : e ≡ 1 + k = e-is ∙ rw (lt-ltb κ NOT z) down in
+      let p : r ≡ 1 + k = r-is ∙ rw z down in
+      let q : e ≡ 1 + k = e-is ∙ rw z down in
       put φ 0 [] s (omega arith) refl (rw p t)
 
-  one : (φ ψ : Term) → NOT ≤ κ → κ < EITHER → Sided right end (1 + k) ψ → size φ ≡ 1 + size ψ → right_sides k φ ≡ (1 + k) ∷ right_sides (1 + k) ψ → Here φ
-  one φ ψ z y S s t =
-      let p : r ≡ 1 + k = r-is ∙ rw (lt-leb EITHER κ y) down in
-      let q : e ≡ 1 + k + size ψ = e-is ∙ rw (le-ltb κ NOT z, p) S.behind in
+  one : (φ ψ : Term) → n ≡ 1 → Sided right end (1 + k) ψ → size φ ≡ 1 + size ψ → right_sides k φ ≡ (1 + k) ∷ right_sides (1 + k) ψ → Here φ
+  one φ ψ z S s t =
+      let p : r ≡ 1 + k = r-is ∙ rw z down in
+      let q : e ≡ 1 + k + size ψ = e-is ∙ rw (z, p) S.behind in
       put φ (size ψ) (right_sides (1 + k) ψ) s (omega arith) S.rights (rw p t)
 
-  two : (op : Op) (φ ψ : Term) → EITHER ≤ κ → Sided right end (1 + k) φ → Sided right end (1 + k + size φ) ψ → Here (bin op φ ψ)
+  two : (op : Op) (φ ψ : Term) → n ≡ 2 → Sided right end (1 + k) φ → Sided right end (1 + k + size φ) ψ → Here (bin op φ ψ)
   two op φ ψ z S T =
-      let p : r ≡ 1 + k + size φ = r-is ∙ rw (le-leb EITHER κ z, down) S.behind in
-      let q : e ≡ 1 + k + size φ + size ψ = e-is ∙ rw (le-ltb κ NOT (omega arith), p) T.behind in
+      let p : r ≡ 1 + k + size φ = r-is ∙ rw (z, down) S.behind in
+      let q : e ≡ 1 + k + size φ + size ψ = e-is ∙ rw (z, p) T.behind in
       put (bin op φ ψ) (size φ + size ψ) (right_sides (1 + k) φ ++ right_sides (1 + k + size φ) ψ) refl (omega arith)
       (take-add (size φ) (size ψ) (drop (1 + k) right) ∙ rw (drop-drop (size φ) (1 + k) right, S.rights, T.rights)) (rw p)
 
   -- the word, and the sides behind it
   module _ {w : ℕ} {vs : List ℕ} (p : w ∷ vs ≡ drop k ws) where
-    its_kind : {m : ℕ} → kind w ≡ m → κ ≡ m
-    its_kind q = let d = drop-cons ws k 0 inside in let f : get_or ws k 0 ≡ w = cc in κ-is ∙ rw f q
+    its_sides : {m : ℕ} → kind w ≡ m → n ≡ sides m
+    its_sides q = let d = drop-cons ws k 0 inside in let f : get_or ws k 0 ≡ w = cc in n-is ∙ rw (f, q)
 
     next : vs ≡ drop (1 + k) ws
     next = let d = drop-cons ws k 0 inside in rw one-add (cc)
@@ -115,17 +112,17 @@ module _ (ws right end : List ℕ) (i k κ r e : ℕ) (short : length ws ≤ 31)
         D.terms (1 + k + size φ) (omega arith) (rw (← drop_begins b, next, drop-drop (size φ) (1 + k) ws) at c)
 
   here : {vs us : List ℕ} {φ : Term} → Begins vs φ us → vs ≡ drop k ws → Here φ
-  here (begins1 q) p = leaf _ (omega (arith, its_kind p q)) refl refl
-  here (begins2 q) p = leaf _ (omega (arith, its_kind p q)) refl refl
-  here (begins3 q) p = leaf _ (omega (arith, its_kind p q)) refl refl
-  here (begins4 q b) p = one _ _ (omega (arith, its_kind p q)) (omega (arith, its_kind p q)) (first p b) refl refl
-  here (begins5 q b) p = one _ _ (omega (arith, its_kind p q)) (omega (arith, its_kind p q)) (first p b) refl refl
-  here (begins_op {op = op} q b c) p = two op _ _ (omega (arith, its_kind p q, op_high op)) (first p b) (second p b c)
+  here (begins1 q) p = leaf _ (its_sides p q) refl refl
+  here (begins2 q) p = leaf _ (its_sides p q) refl refl
+  here (begins3 q) p = leaf _ (its_sides p q) refl refl
+  here (begins4 q b) p = one _ _ (its_sides p q) (first p b) refl refl
+  here (begins5 q b) p = one _ _ (its_sides p q) (first p b) refl refl
+  here (begins_op {op = op} q b c) p = two op _ _ (its_sides p q ∙ op_sides op) (first p b) (second p b c)
 
   pub step : Done ws (set right k r) (set end k e) k
   step = record {
     long = (length-set right k r ∙ D.long.0, length-set end k e ∙ D.long.1);
-    small = set_le 31 end k e (rw e-is (cond_le 31 (ltb κ NOT) i (get_or end r 0) (omega arith) (D.small r))) D.small;
+    small = set_le 31 end k e (rw e-is (cond_le 31 (eqb n 0) i (get_or end r 0) (omega arith) (D.small r))) D.small;
     rest = drop-set-lt (length ws) right k r inside ∙ D.rest;
     terms = λ j l b. at j b (eq-or-lt_of_le l);
   }

@@ -1,3 +1,3 @@
-pub mod Masks
+pub mod Parts
 pub mod Kinded
 pub mod Ends

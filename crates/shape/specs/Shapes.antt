@@ -1,6 +1,6 @@
 -- What the monitor needs to know of a policy's words to judge sets of actions: which words go by which row of document 01's
 -- table "Satisfied and possible", and where right sides begin.
-use Rattle.std.specs.Prelude.{Bool, true, false, cond, List, [], ◌∷◌, ◌++◌, ℕ, ◌+◌, length, replicate}
+use Rattle.std.specs.Prelude.{Bool, true, false, cond, List, [], ◌∷◌, ◌++◌, ℕ, ◌+◌, length, Option as Maybe, Some, None}
 use Rattle.std.proofs.Math.Option.{Option, some, none}
 use Rattle.soda.specs.Lists.{padded}
 use Rattle.soda.specs.Terms.{Op, either, both, together, apart, Term, everyone, role, set, ¬ᵗ◌, ◌⁺, bin, same_op, unit, well_formed, size, marks}
@@ -35,10 +35,6 @@ right_sides i (¬ᵗ φ) = (1 + i) ∷ right_sides (1 + i) φ
 right_sides i (φ ⁺) = (1 + i) ∷ right_sides (1 + i) φ
 right_sides i (bin op φ ψ) = (1 + i + size φ) ∷ (right_sides (1 + i) φ ++ right_sides (1 + i + size φ) ψ)
 
--- nothing
-abbrev pub blank_shape : Shape
-blank_shape = record { words = 0; units = 0; plus = 0; either = 0; both = 0; together = 0; apart = 0; right = replicate 31 0 }
-
 -- the shape of a term
 abbrev pub term_shape : Term → Shape
 term_shape φ = record {
@@ -52,10 +48,10 @@ term_shape φ = record {
   right = padded 31 (right_sides 0 φ);
 }
 
--- the shape of words that are a well-formed term of 1 to 31 words; of any others, nothing
-abbrev pub shape_in : Option Term → Shape
-shape_in none = blank_shape
-shape_in (some φ) = cond (well_formed φ) (term_shape φ) blank_shape
+-- the shape of words that are a well-formed term of 1 to 31 words; of any others, none
+abbrev pub shape_in : Option Term → Maybe Shape
+shape_in none = None
+shape_in (some φ) = cond (well_formed φ) (Some (term_shape φ)) None
 
-unfoldable pub shape_of : List ℕ → Shape
+unfoldable pub shape_of : List ℕ → Maybe Shape
 shape_of ws = shape_in (cond (length_ok (length ws)) (decode ws) none)

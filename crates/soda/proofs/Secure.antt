@@ -1,5 +1,6 @@
 -- The three processes together (document 004, section 5.3): SSW has what its three parts have, RBAC has what is authorized, and W has what
 -- leads somewhere.
+use Rattle.std.specs.Prelude.{Option, Some, None}
 use mathlib.Core.Path.{◌≡◌, refl, sym, ap, ◌∙◌, subst}
 use mathlib.Core.Logic.{◌↔◌, inl, inr}
 use mathlib.Core.Bool.{Bool, true, false, So, not}
@@ -12,8 +13,6 @@ use Rattle.soda.specs.Lists.{all}
 use Rattle.soda.specs.Roles.{UA, roles, grant, revoke, PA, authorized}
 use Rattle.soda.specs.Traces.{business, add_ua, rm_ua, Trace}
 use Rattle.soda.specs.Workflows.{Transitions, no_transition, leaves, deterministic, successor, follow, reached, is_somewhere, is_final, authorized_all}
-use Rattle.soda.specs.declared.Successor.{Successor}
-use Rattle.soda.specs.declared.Successor.TheVariants.{To, Nowhere}
 use Rattle.soda.specs.Csp.{call, Merge, m_nil, m_both, m_left, m_right, at_stop, at_prefix, by_prefix, by_left, by_right, by_some, by_parallel, by_call}
 use Rattle.soda.specs.Processes.{Symbol, event, done, rbac, work, is_done, is_admin, is_business, takes, SOD, W, RBAC, SW, SSW, without_admin, without_done, unfinished}
 use Rattle.soda.specs.Secure.{SecureIsAllThree, ActionIsTakenByAll, RbacIsAuthorized, WorkflowIsReached}
@@ -36,11 +35,11 @@ work-ends ts finals s h = elim (choice_out (call_out h)) [
 ]
 
 -- what a state must be at the end of a trace: any, or final with done behind the trace
-abbrev arrives : Bool → ℕ → Successor → Bool
+abbrev arrives : Bool → ℕ → Option ℕ → Bool
 arrives true finals x = is_somewhere x
 arrives false finals x = is_final finals x
 
-arrives_nowhere : (e : Bool) (finals : ℕ) → arrives e finals Nowhere ≡ false
+arrives_nowhere : (e : Bool) (finals : ℕ) → arrives e finals None ≡ false
 arrives_nowhere true finals = refl
 arrives_nowhere false finals = refl
 
@@ -64,15 +63,15 @@ work_in ts finals true [] s h = by_call (by_right at_prefix)
 work_in ts finals false [] s h = by_call (by_right (by_prefix h at_stop))
 work_in ts finals e (business u a ∷ t) s h = go (successor ts s a) refl h (work_in ts finals e t)
   where
-    go : (x : Successor) → successor ts s a ≡ x → So (arrives e finals (follow x (λ n. reached ts n t)))
+    go : (x : Option ℕ) → successor ts s a ≡ x → So (arrives e finals (follow x (λ n. reached ts n t)))
         → ((n : ℕ) → So (arrives e finals (reached ts n t)) → Has (call (work ts finals n)) (without_admin (ending e t)))
         → Has (call (work ts finals s)) (event (business u a) ∷ without_admin (ending e t))
-    go (To n) q h ih =
+    go (Some n) q h ih =
         let y = leaving ts s a n q in
         by_call (by_left (by_some y.place (by_prefix
         (and-join (ltb y.place (length ts)) (leaves s a (get_or ts y.place no_transition)) (lt_so y.place (length ts) y.inside) y.fits)
         (subst (λ (m : ℕ). Has (call (work ts finals m)) (without_admin (ending e t))) (sym y.leads_there) (ih n h)))))
-    go Nowhere q h ih = never (sym (arrives_nowhere e finals) ∙ h)
+    go None q h ih = never (sym (arrives_nowhere e finals) ∙ h)
 work_in ts finals e (add_ua u r ∷ t) s h = work_in ts finals e t s h
 work_in ts finals e (rm_ua u r ∷ t) s h = work_in ts finals e t s h
 

@@ -1,4 +1,5 @@
 -- Laws of who is authorized, of where the actions of a trace lead, and of transitions of which no two have the same state and action.
+use Rattle.std.specs.Prelude.{Option, Some, None}
 use mathlib.Core.Path.{◌≡◌, refl, sym, ap, ap₂, ◌∙◌}
 use mathlib.Core.Logic.{◌↔◌, inl, inr}
 use mathlib.Core.Bool.{Bool, true, false, So, not, ◌&&◌, ◌||◌, and_assoc, and-false, cond, false≢true}
@@ -13,8 +14,6 @@ use Rattle.soda.specs.Roles.{UA, roles, grant, revoke, PA, permitted, authorized
 use Rattle.soda.specs.Traces.{business, add_ua, rm_ua, Trace, upd}
 use Rattle.soda.specs.Workflows.{Transitions, no_transition, leaves, deterministic, successor, follow, reached, is_somewhere, authorized_all}
 use Rattle.soda.specs.declared.Transition.{Transition}
-use Rattle.soda.specs.declared.Successor.{Successor}
-use Rattle.soda.specs.declared.Successor.TheVariants.{To, Nowhere}
 use Rattle.soda.specs.Secure.{AuthorizedIsSomeRole, ZeroRowsGiveNothing}
 use Rattle.soda.proofs.Bools.{never, not_so, same_test, and_split, and-join, so_eq, eqb_swap, lt_or_le}
 use Rattle.soda.proofs.Bits.{bit_of_zero}
@@ -64,9 +63,9 @@ authorized_append pa (add_ua u r ∷ s) t ua = authorized_append pa s t (grant u
 authorized_append pa (rm_ua u r ∷ s) t ua = authorized_append pa s t (revoke ua u r)
 
 -- ── where actions lead ──
-follow_twice : (x : Successor) (f g h : ℕ → Successor) → ((n : ℕ) → f n ≡ follow (g n) h) → follow x f ≡ follow (follow x g) h
-follow_twice (To n) f g h e = e n
-follow_twice Nowhere f g h e = refl
+follow_twice : (x : Option ℕ) (f g h : ℕ → Option ℕ) → ((n : ℕ) → f n ≡ follow (g n) h) → follow x f ≡ follow (follow x g) h
+follow_twice (Some n) f g h e = e n
+follow_twice None f g h e = refl
 
 pub reached_append : (ts : Transitions) (t t' : Trace) (s : ℕ) → reached ts s (t ++ t') ≡ follow (reached ts s t) (λ n. reached ts n t')
 reached_append ts [] t' s = refl
@@ -108,9 +107,9 @@ deterministic_front (x ∷ l) r h =
     neither false b e = refl
 
 -- ── the transitions that leave a state by an action ──
-state_of : Successor → ℕ
-state_of (To n) = n
-state_of Nowhere = 0
+state_of : Option ℕ → ℕ
+state_of (Some n) = n
+state_of None = 0
 
 -- the successor is the next state of one of them
 pub record Leaving (ts : Transitions) (s a n : ℕ) : Type 0 where
@@ -119,12 +118,12 @@ pub record Leaving (ts : Transitions) (s a n : ℕ) : Type 0 where
   pub fits : So (leaves s a (get_or ts place no_transition))
   pub leads_there : (get_or ts place no_transition).next ≡ n
 
-pub leaving : (ts : Transitions) (s a n : ℕ) → successor ts s a ≡ To n → Leaving ts s a n
+pub leaving : (ts : Transitions) (s a n : ℕ) → successor ts s a ≡ Some n → Leaving ts s a n
 unfolding state_of
 leaving [] s a n e = never (ap is_somewhere e)
 leaving (x ∷ l) s a n e = go (leaves s a x) refl e (leaving l s a n)
   where
-    go : (b : Bool) → leaves s a x ≡ b → cond b (To x.next) (successor l s a) ≡ To n → (successor l s a ≡ To n → Leaving l s a n)
+    go : (b : Bool) → leaves s a x ≡ b → cond b (Some x.next) (successor l s a) ≡ Some n → (successor l s a ≡ Some n → Leaving l s a n)
         → Leaving (x ∷ l) s a n
     go true y e ih = record { place = 0; inside = omega arith; fits = y; leads_there = ap state_of e }
     go false y e ih = let r = ih e in
@@ -132,12 +131,12 @@ leaving (x ∷ l) s a n e = go (leaves s a x) refl e (leaving l s a n)
 
 -- where no two have the same state and action, each of them is the one
 pub successor_at : (ts : Transitions) (s a k : ℕ) → So (deterministic ts) → k < length ts → So (leaves s a (get_or ts k no_transition))
-    → successor ts s a ≡ To (get_or ts k no_transition).next
+    → successor ts s a ≡ Some (get_or ts k no_transition).next
 successor_at [] s a k d b h = absurd (omega arith)
-successor_at (x ∷ l) s a zero d b h = ap (λ (y : Bool). cond y (To x.next) (successor l s a)) h
+successor_at (x ∷ l) s a zero d b h = ap (λ (y : Bool). cond y (Some x.next) (successor l s a)) h
 successor_at (x ∷ l) s a (suc k) d b h =
     let (n, m) = and_split (not (any (leaves x.state x.action) l)) (deterministic l) d in
-    ap (λ (y : Bool). cond y (To x.next) (successor l s a)) (not_so (leaves s a x) (λ y. two y n)) ∙ successor_at l s a k m (omega arith) h
+    ap (λ (y : Bool). cond y (Some x.next) (successor l s a)) (not_so (leaves s a x) (λ y. two y n)) ∙ successor_at l s a k m (omega arith) h
   where
     two : So (leaves s a x) → So (not (any (leaves x.state x.action) l)) → ⊥
     two y n =

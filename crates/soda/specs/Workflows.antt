@@ -1,13 +1,11 @@
 -- Workflows (document 004, section 3.1; document 02: work plans): the order in which actions may be executed, as an automaton. Its states are
 -- numbers, and it starts in state 0.
-use Rattle.std.specs.Prelude.{Bool, true, false, not, ◌&&◌, cond, List, [], ◌∷◌, ℕ, eqb}
+use Rattle.std.specs.Prelude.{Bool, true, false, not, ◌&&◌, cond, List, [], ◌∷◌, ℕ, eqb, Option, Some, None}
 use Rattle.soda.specs.Bits.{bit}
 use Rattle.soda.specs.Lists.{any}
 use Rattle.soda.specs.Roles.{UA, roles, grant, revoke, PA, authorized}
 use Rattle.soda.specs.Traces.{business, add_ua, rm_ua, Trace}
 use Rattle.soda.specs.declared.Transition.{Transition}
-use Rattle.soda.specs.declared.Successor.{Successor}
-use Rattle.soda.specs.declared.Successor.TheVariants.{To, Nowhere}
 
 abbrev pub Transitions : Type 0
 Transitions = List Transition
@@ -26,31 +24,31 @@ deterministic [] = true
 deterministic (x ∷ l) = not (any (leaves x.state x.action) l) && deterministic l
 
 -- where action a leads from state s
-abbrev pub successor : Transitions → ℕ → ℕ → Successor
-successor [] s a = Nowhere
-successor (x ∷ l) s a = cond (leaves s a x) (To x.next) (successor l s a)
+abbrev pub successor : Transitions → ℕ → ℕ → Option ℕ
+successor [] s a = None
+successor (x ∷ l) s a = cond (leaves s a x) (Some x.next) (successor l s a)
 
 -- ── a trace of actions, grants and revocations ──
-abbrev pub follow : Successor → (ℕ → Successor) → Successor
-follow (To s) f = f s
-follow Nowhere f = Nowhere
+abbrev pub follow : Option ℕ → (ℕ → Option ℕ) → Option ℕ
+follow (Some s) f = f s
+follow None f = None
 
 -- where its actions lead from state s, one after the other
-abbrev pub reached : Transitions → ℕ → Trace → Successor
-reached ts s [] = To s
+abbrev pub reached : Transitions → ℕ → Trace → Option ℕ
+reached ts s [] = Some s
 reached ts s (business u a ∷ t) = follow (successor ts s a) (λ n. reached ts n t)
 reached ts s (add_ua u r ∷ t) = reached ts s t
 reached ts s (rm_ua u r ∷ t) = reached ts s t
 
 -- they lead to a state ..
-abbrev pub is_somewhere : Successor → Bool
-is_somewhere (To s) = true
-is_somewhere Nowhere = false
+abbrev pub is_somewhere : Option ℕ → Bool
+is_somewhere (Some s) = true
+is_somewhere None = false
 
 -- .. to one of the final states, bit s for state s
-abbrev pub is_final : ℕ → Successor → Bool
-is_final finals (To s) = bit s finals
-is_final finals Nowhere = false
+abbrev pub is_final : ℕ → Option ℕ → Bool
+is_final finals (Some s) = bit s finals
+is_final finals None = false
 
 -- each of its actions is by a user who is authorized by the roles held then
 abbrev pub authorized_all : PA → UA → Trace → Bool

@@ -17,10 +17,9 @@ use Rattle.policy.specs.Accepted.{IsPolicy}
 use Rattle.policy.specs.Faults.{code_at}
 use Rattle.policy.proofs.Accepted.{decode-is-term}
 use Rattle.text.specs.Texts.{policy_text}
-use Rattle.text.specs.Reading.{term_of, words_of, word_refusals, read_code, converted, read_answer, read_out}
+use Rattle.text.specs.Reading.{Written, Refused, term_of, words_of, word_refusals, read_code, converted, read_answer, read_out}
 use Rattle.text.specs.Writing.{text_of, write_refusals, write_code, write_answer, write_out}
 use Rattle.text.specs.Laws.{Named, WriteIsText, WriteThirteenIsLast, ReadThenWrite}
-use Rattle.text.specs.declared.Converted.TheVariants.{Written, Refused}
 use Rattle.text.proofs.Policies.{policy_named, named_decodes, accepts, accepted, short, shortened}
 use Rattle.text.proofs.Opened.{term_of_text, by_words}
 

@@ -14,13 +14,11 @@ use Rattle.policy.specs.Refusals.{Refusals, ◌gives◌, code}
 use Rattle.policy.specs.Words.{decode}
 use Rattle.policy.specs.Faults.{code_at}
 use Rattle.policy.specs.Reading.{refusals, units_of, read_policy}
-use Rattle.policy.specs.declared.Code.{Code}
-use Rattle.policy.specs.declared.Code.TheVariants.{Plain}
-use Rattle.policy.specs.declared.PolicyRead.TheVariants as policy
+use Rattle.policy.specs.Codes.{Code}
+use Rattle.policy.specs.Codes.{Plain}
+use Rattle.policy.specs.Reading as policy
 use Rattle.policy.proofs.Refusals.{clear, code_front, code-behind}
-use Rattle.text.specs.Reading.{converted, laid}
-use Rattle.text.specs.declared.Converted.{Converted}
-use Rattle.text.specs.declared.Converted.TheVariants.{Written, Refused}
+use Rattle.text.specs.Reading.{Converted, Written, Refused, converted, laid}
 
 module _ (users roles : ℕ) (ws new out : List ℕ) where
   -- 5, 1 to 4, then 13

@@ -19,7 +19,7 @@ use Rattle.policy.specs.Refusals.{Refusals, ◌gives◌, code, Clear}
 use Rattle.policy.specs.Accepted.{IsPolicy}
 use Rattle.policy.specs.Words.{decode}
 use Rattle.policy.specs.Reading.{refusals, units_of, read_policy}
-use Rattle.policy.specs.declared.PolicyRead.TheVariants.{Accepted}
+use Rattle.policy.specs.Reading.{Accepted}
 use Rattle.policy.proofs.Refusals.{clear, clear_code, code_front, code-behind, clear_front, clear_behind}
 use Rattle.policy.proofs.Scanning.{counts_most}
 use Rattle.policy.proofs.Accepted.{decodes, read_is-encode, policy_in_layout, decode-is-term}

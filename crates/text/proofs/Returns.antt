@@ -11,9 +11,8 @@ use Rattle.policy.specs.Codes.{ACCEPTED, OUTPUT}
 use Rattle.policy.specs.Refusals.{code}
 use Rattle.policy.specs.Accepted.{IsPolicy}
 use Rattle.text.specs.Texts.{policy_text}
-use Rattle.text.specs.Reading.{term_of, words_of, word_refusals, read_code, read_answer, read_out}
+use Rattle.text.specs.Reading.{Written, term_of, words_of, word_refusals, read_code, read_answer, read_out}
 use Rattle.text.specs.Laws.{ReadIsText, ReadThirteenIsLast, WriteThenRead, WrittenHasText}
-use Rattle.text.specs.declared.Converted.TheVariants.{Written}
 use Rattle.text.proofs.Policies.{policy_named, accepts, short}
 use Rattle.text.proofs.Lengths.{text-fits}
 use Rattle.text.proofs.Opened.{term_of_text, read_is-words}

@@ -8,13 +8,12 @@ use Rattle.policy.specs.Codes.{ACCEPTED, TERM, OPENING, TEXT, OUTPUT}
 use Rattle.policy.specs.Refusals.{code}
 use Rattle.policy.specs.Reading.{read_policy}
 use Rattle.policy.specs.Accepted.{IsPolicy}
-use Rattle.policy.specs.declared.Code.{Code}
-use Rattle.policy.specs.declared.PolicyRead.TheVariants as policy
+use Rattle.policy.specs.Codes.{Code}
+use Rattle.policy.specs.Reading as policy
 use Rattle.text.specs.Texts.{opening, text, policy_text}
 use Rattle.text.specs.Grammar.{parse}
-use Rattle.text.specs.Reading.{word_refusals, read_code, read_answer, read_out}
+use Rattle.text.specs.Reading.{Written, Refused, word_refusals, read_code, read_answer, read_out}
 use Rattle.text.specs.Writing.{write_code, write_answer, write_out}
-use Rattle.text.specs.declared.Converted.TheVariants.{Written, Refused}
 
 -- ── texts and terms ──
 -- A term has a text of its own where its numbers are at most 15 and no set is empty.

@@ -1,16 +1,16 @@
 -- The call that reads a text (document 02, E7): its number, its answer and its output.
-use Rattle.std.specs.Prelude.{not, ◌||◌, cond, List, [], ◌∷◌, ◌++◌, ℕ, ltb, eqb, length, drop}
+use Rattle.std.specs.Prelude.{not, ◌||◌, cond, List, [], ◌∷◌, ◌++◌, ℕ, ltb, eqb, length, drop, Result, Ok, Err}
 use Rattle.std.proofs.Math.Option.{Option, some, none}
 use Rattle.soda.specs.Terms.{Term}
 use Rattle.soda.specs.Words.{encode}
-use Rattle.policy.specs.Codes.{ACCEPTED, OPENING, TEXT, OUTPUT}
+use Rattle.policy.specs.Codes.{ACCEPTED, OPENING, TEXT, OUTPUT, Code}
 use Rattle.policy.specs.Refusals.{Refusals, ◌gives◌, code}
 use Rattle.policy.specs.Faults.{code_at}
+use Rattle.policy.specs.Answers.{code_of}
 use Rattle.policy.specs.Reading.{refusals}
+use Rattle.policy.specs.declared.refusal.Refusal.{Refusal}
 use Rattle.text.specs.Texts.{opening}
 use Rattle.text.specs.Grammar.{upon, is_found, behind, parse}
-use Rattle.text.specs.declared.Converted.{Converted}
-use Rattle.text.specs.declared.Converted.TheVariants.{Written, Refused}
 
 -- a text has at most 1,024 bytes
 abbrev pub limit : ℕ
@@ -38,6 +38,16 @@ read_refusals users roles t n =
 
 abbrev pub read_code : ℕ → ℕ → List ℕ → ℕ → ℕ
 read_code users roles t n = code (read_refusals users roles t n)
+
+-- what a conversion answers: how many words or bytes it wrote, or a code
+pub data Converted : Type 0 where
+  Written : ℕ → Converted
+  Refused : Code → Converted
+
+-- what `read_text` and `write_text` of src answer
+abbrev pub as_converted : Result ℕ Refusal → Converted
+as_converted (Ok n) = Written n
+as_converted (Err r) = Refused (code_of r)
 
 -- so many words or bytes are written, or a number is given, with the place of a policy's fault among the words
 abbrev pub converted : ℕ → ℕ → List ℕ → ℕ → ℕ → Converted

@@ -7,8 +7,7 @@ use Rattle.policy.specs.Refusals.{Refusals, ◌gives◌, code}
 use Rattle.policy.specs.Words.{decode}
 use Rattle.policy.specs.Reading.{refusals}
 use Rattle.text.specs.Texts.{policy_text}
-use Rattle.text.specs.Reading.{converted, laid}
-use Rattle.text.specs.declared.Converted.{Converted}
+use Rattle.text.specs.Reading.{Converted, converted, laid}
 
 -- the text of the term that the words are
 abbrev pub text_in : Option Term → List ℕ

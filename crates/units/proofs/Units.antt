@@ -7,7 +7,9 @@ use mathlib.Core.Option.{Option, some, none}
 use Prim.Native.Nat.{ℕ, ◌-◌}
 use native.Mathlib.Omega.{arith}
 use lib.ListN.{length, replicate, length-map, get_or-append}
-use borrow.Author.Tests.{le-leb}
+use lib.Dec.{eqb}
+use borrow.Author.Tests.{le-leb, eqb-true, eqb-false}
+use Rattle.std.specs.Prelude.{Some, None}
 use Rattle.soda.specs.Bits.{number}
 use Rattle.soda.specs.Lists.{range}
 use Rattle.soda.specs.Roles.{roles}
@@ -18,7 +20,7 @@ use Rattle.soda.proofs.Unassigned.{unassigned_notes_nothing}
 use Rattle.policy.specs.Words.{decode}
 use Rattle.policy.specs.Reading.{length_ok, is_formed, units_of}
 use Rattle.policy.proofs.Masks.{number_append}
-use Rattle.units.specs.Units.{unit_words, met_in, met_of, met_each, EachIsMet, UnassignedMeetsNone, SomeUnit, OneTerm, ZeroIsNoTerm, ElseOneTerm}
+use Rattle.units.specs.Units.{nonzero, unit_words, met_in, met_of, met_each, EachIsMet, UnassignedMeetsNone, SomeUnit, OneTerm, ZeroIsNoTerm, ElseOneTerm}
 
 pub some-unit : SomeUnit
 some-unit everyone = omega arith
@@ -38,6 +40,15 @@ some-unit (bin op φ ψ) =
 units-are : (ws : List ℕ) (φ : Term) → OneTerm ws φ → unit_words ws ≡ marks unit φ
 unfolding unit_words
 units-are ws φ o = rw (o.long, o.is, o.formed)
+
+-- what `units_of` of src answers
+pub none_is-zero : (n : ℕ) → None ≡ nonzero n → n ≡ 0
+none_is-zero n e = by_test (eqb n 0) (eqb-true n 0) (λ f. absurd (let d = rw f at e in cc))
+
+pub some_is-mask : (m n : ℕ) → Some m ≡ nonzero n → (m ≡ n) × (n ≡ 0 → ⊥)
+some_is-mask m n e = by_test (eqb n 0)
+    (λ t. absurd (let d = rw t at e in cc))
+    λ f. ((let d = rw f at e in cc), eqb-false n 0 f)
 
 pub zero-is_no_term : ZeroIsNoTerm
 zero-is_no_term ws e φ o = omega (arith, e, units-are ws φ o, some-unit φ)

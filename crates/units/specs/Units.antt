@@ -1,5 +1,5 @@
 -- The unit terms of a policy's words, and those that a user meets.
-use Rattle.std.specs.Prelude.{◌≡◌, Bool, true, ◌&&◌, cond, List, map, ℕ, ◌≤◌, ◌<◌, leb, eqb, length, get_or, replicate}
+use Rattle.std.specs.Prelude.{◌≡◌, Bool, true, false, ◌&&◌, cond, List, map, ℕ, ◌≤◌, ◌<◌, leb, eqb, length, get_or, replicate, Option as Maybe, Some, None}
 use Rattle.std.proofs.Math.Option.{Option, some, none}
 use Rattle.soda.specs.Lists.{range, padded}
 use Rattle.soda.specs.Roles.{roles}
@@ -15,6 +15,10 @@ use Rattle.units.specs.declared.Survey.{Survey}
 unfoldable pub unit_words : List ℕ → ℕ
 unit_words ws = cond (length_ok (length ws) && is_formed (decode ws)) (units_of (decode ws)) 0
 
+-- what `units_of` of src answers: nothing for the mask 0, which no such term has
+abbrev pub nonzero : ℕ → Maybe ℕ
+nonzero n = cond (eqb n 0) None (Some n)
+
 -- For each word that begins a unit term, whether a user who holds these roles meets it, bit i for word i. Words that are not
 -- exactly one term of 1 to 31 words give 0.
 abbrev pub met_in : Option Term → ℕ → ℕ → ℕ
@@ -29,11 +33,21 @@ unfoldable pub met_each : List ℕ → List ℕ → List ℕ
 met_each ws rows = cond (leb (length rows) 16) (padded 16 (map (λ u. met_of ws u (roles rows u)) (range 0 (length rows)))) (replicate 16 0)
 
 -- What a call on a monitor asks of its policy: whether none of 5 and 1 to 4 applies, and then its unit words and those that a user meets.
-abbrev pub survey_in : Bool → ℕ → ℕ → Survey
+pub record PolicySurvey : Type 0 where
+  pub accepted : Bool
+  pub units : ℕ
+  pub met : ℕ
+
+abbrev pub survey_in : Bool → ℕ → ℕ → PolicySurvey
 survey_in accepted units met = record { accepted = accepted; units = cond accepted units 0; met = cond accepted met 0 }
 
-unfoldable pub survey_of : ℕ → ℕ → List ℕ → ℕ → ℕ → Survey
+unfoldable pub survey_of : ℕ → ℕ → List ℕ → ℕ → ℕ → PolicySurvey
 survey_of users roles ws u h = survey_in (eqb (code (refusals users roles ws)) ACCEPTED) (units_of (decode ws)) (met_of ws u h)
+
+-- what `survey_of` of src answers: nothing for a policy that is refused
+abbrev pub as_survey : Maybe Survey → PolicySurvey
+as_survey None = survey_in false 0 0
+as_survey (Some s) = record { accepted = true; units = s.units; met = s.met }
 
 -- ── what is proved of them ──
 -- Of at most 16 users, place u of what each meets is what user u meets.

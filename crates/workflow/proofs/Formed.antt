@@ -1,4 +1,5 @@
 -- What a well-formed workflow says, part by part, and that what is read is well formed.
+use Rattle.std.specs.Prelude.{Some}
 use mathlib.Core.Path.{◌≡◌, refl, sym, ap, ap₂, ◌∙◌}
 use mathlib.Core.Logic.{⊎_elim}
 use mathlib.Core.Bool.{Bool, false, So, ◌&&◌, and-false, or-true, or-false}
@@ -12,7 +13,6 @@ use lib.Seq.{drop_at}
 use Rattle.soda.specs.Lists.{all}
 use Rattle.soda.specs.Workflows.{Transitions, no_transition, leaves, deterministic, successor}
 use Rattle.soda.specs.declared.Transition.{Transition}
-use Rattle.soda.specs.declared.Successor.TheVariants.{To}
 use Rattle.soda.proofs.Bools.{never, by_test, and_split, and-join, or_split, so_eq, so_lt}
 use Rattle.workflow.specs.declared.Workflow.{Workflow}
 use Rattle.workflow.specs.Permissions.{low_first, permissions_ok, permissions_in, permission_rows}
@@ -79,12 +79,12 @@ pub formed-is-deterministic : FormedIsDeterministic
 formed-is-deterministic w h = (workflow-formed w h).apart
 
 -- where a transition leads
-leads : (states s a n : ℕ) (l : Transitions) → So (all (transition_ok states) l) → successor l s a ≡ To n → n < states
+leads : (states s a n : ℕ) (l : Transitions) → So (all (transition_ok states) l) → successor l s a ≡ Some n → n < states
 leads states s a n [] h e = absurd (let z : ◌≡◌ {A = ℕ} 0 1 = cc in omega arith)
 leads states s a n (x ∷ l) h e =
     let (o, r) = and_split (transition_ok states x) (all (transition_ok states) l) h in
     by_test (leaves s a x)
-    (λ t. let z : To x.next ≡ To n = rw t at e in let q : x.next ≡ n = cc in omega (arith, (transition_formed states x o).1))
+    (λ t. let z : Some x.next ≡ Some n = rw t at e in let q : x.next ≡ n = cc in omega (arith, (transition_formed states x o).1))
     λ t. leads states s a n l r (rw t at e)
 
 pub successor-is-declared : SuccessorIsDeclared

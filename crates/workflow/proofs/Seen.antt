@@ -17,6 +17,8 @@ use Rattle.soda.specs.declared.Transition.{Transition}
 use Rattle.soda.proofs.Bits.{bit_of_zero, bit-set_bit}
 use Rattle.soda.proofs.Bools.{never, not_so, and-join, so_eq, eqb_swap}
 use Rattle.soda.proofs.Workflows.{deterministic_append}
+use Rattle.workflow.specs.Workflows.{transition_ok}
+use Rattle.workflow.proofs.Formed.{transition_formed}
 use Rattle.workflow.proofs.Determinism.{any-more, deterministic-first}
 use Rattle.soda.proofs.Loops.{next, end}
 
@@ -44,52 +46,62 @@ seen_more seen l x n h k s a r = at (eqb x.state s) refl ∙ sym (any-more (leav
     at false e = ap (bit a) (get_or-set_other seen x.state s row 0 (λ z. eqb-false x.state s e (sym z))) ∙ k s a r
 
 -- ── what a loop keeps that tests the transitions ys one by one, and is at place i ──
-pub record Kept (ok : Transition → Bool) (ys : Transitions) (seen : List ℕ) (i : ℕ) : Type 0 where
-  pub states : length seen ≡ 16
+pub record Kept (states : ℕ) (ys : Transitions) (seen : List ℕ) (i : ℕ) : Type 0 where
+  pub rows : length seen ≡ 16
   pub within : i ≤ length ys
-  pub rest : all ok ys ≡ all ok (drop i ys)
+  pub rest : all (transition_ok states) ys ≡ all (transition_ok states) (drop i ys)
   pub apart : So (deterministic (take i ys))
   pub table : Seen seen (take i ys)
 
-pub kept-none : (ok : Transition → Bool) (ys : Transitions) → Kept ok ys (replicate 16 0) 0
-kept-none ok ys = record { states = refl; within = omega arith; rest = refl; apart = refl; table = seen_none }
+pub kept-none : (states : ℕ) (ys : Transitions) → Kept states ys (replicate 16 0) 0
+kept-none states ys = record { rows = refl; within = omega arith; rest = refl; apart = refl; table = seen_none }
 
-module _ {ok : Transition → Bool} {ys : Transitions} {seen : List ℕ} {i : ℕ} (k : Kept ok ys seen i) where
-  pub kept-all : length ys ≤ i → true ≡ (all ok ys && deterministic ys)
-  kept-all h = sym (and-join (all ok ys) (deterministic ys) (end (all ok) ys no_transition i k.rest h) (rw (take_all i ys h) at k.apart))
+module _ {states : ℕ} {ys : Transitions} {seen : List ℕ} {i : ℕ} (k : Kept states ys seen i) where
+  pub kept-all : length ys ≤ i → true ≡ (all (transition_ok states) ys && deterministic ys)
+  kept-all h =
+      sym
+      (and-join (all (transition_ok states) ys) (deterministic ys) (end (all (transition_ok states)) ys no_transition i k.rest h) (rw (take_all i ys h) at k.apart))
 
-  module _ (x : Transition) (h : i < length ys) (e : get_or ys i no_transition ≡ x) where
-    turn : (b : Bool) → ok x ≡ b → all ok ys ≡ (b && all ok (drop (i + 1) ys))
-    turn b t = next (all ok) ys no_transition i k.rest h ∙ ap (λ (c : Bool). c && all ok (drop (i + 1) ys)) (ap ok e ∙ t)
+  module _ (h : i < length ys) where
+    abbrev x : Transition
+    x = get_or ys i no_transition
+
+    turn : (b : Bool) → transition_ok states x ≡ b → all (transition_ok states) ys ≡ (b && all (transition_ok states) (drop (i + 1) ys))
+    turn b t =
+        next (all (transition_ok states)) ys no_transition i k.rest h
+        ∙ ap (λ (c : Bool). c && all (transition_ok states) (drop (i + 1) ys)) t
 
     -- the next one is not as it must be
-    pub kept_fails : ok x ≡ false → false ≡ (all ok ys && deterministic ys)
+    pub kept_fails : transition_ok states x ≡ false → false ≡ (all (transition_ok states) ys && deterministic ys)
     kept_fails t = sym (ap (λ (b : Bool). b && deterministic ys) (turn false t))
 
-    module _ (s : x.state < 16) where
+    module _ (few : states ≤ 16) (t : transition_ok states x ≡ true) where
+      row : x.state < 16
+      row = omega (arith, (transition_formed states x t).0)
+
       front : take (i + 1) ys ≡ take i ys ++ (x ∷ [])
-      front = ap (λ (n : ℕ). take n ys) (add-one i) ∙ take-suc ys i no_transition h ∙ ap (λ (y : Transition). take i ys ++ (y ∷ [])) e
+      front = ap (λ (n : ℕ). take n ys) (add-one i) ∙ take-suc ys i no_transition h
 
       -- with the next one: the table says whether one before has its state and action
       more : (b : Bool) → bit x.action (get_or seen x.state 0) ≡ b → deterministic (take (i + 1) ys) ≡ (deterministic (take i ys) && not b)
-      more b t =
+      more b e =
           ap deterministic front ∙ deterministic_append (take i ys) x
-          ∙ ap (λ (c : Bool). deterministic (take i ys) && not c) (sym (k.table x.state x.action s) ∙ t)
+          ∙ ap (λ (c : Bool). deterministic (take i ys) && not c) (sym (k.table x.state x.action row) ∙ e)
 
       -- one has
-      pub kept_twice : bit x.action (get_or seen x.state 0) ≡ true → false ≡ (all ok ys && deterministic ys)
-      kept_twice t =
-          let twice : deterministic (take (i + 1) ys) ≡ false = more true t ∙ and-false (deterministic (take i ys)) in
+      pub kept_twice : bit x.action (get_or seen x.state 0) ≡ true → false ≡ (all (transition_ok states) ys && deterministic ys)
+      kept_twice e =
+          let twice : deterministic (take (i + 1) ys) ≡ false = more true e ∙ and-false (deterministic (take i ys)) in
           let no = not_so (deterministic ys) (λ d. never (sym twice ∙ deterministic-first (i + 1) ys d)) in
-          sym (ap (λ (b : Bool). all ok ys && b) no ∙ and-false (all ok ys))
+          sym (ap (λ (b : Bool). all (transition_ok states) ys && b) no ∙ and-false (all (transition_ok states) ys))
 
-      -- none has: the loop goes on
-      pub kept_more : ok x ≡ true → bit x.action (get_or seen x.state 0) ≡ false
-          → Kept ok ys (set seen x.state (set_bit x.action (get_or seen x.state 0))) (i + 1)
-      kept_more t f = record {
-        states = length-set seen x.state (set_bit x.action (get_or seen x.state 0)) ∙ k.states;
+      -- none has: the loop goes on, with its row of the table as n
+      pub kept_more : bit x.action (get_or seen x.state 0) ≡ false → (n : ℕ) → n ≡ set_bit x.action (get_or seen x.state 0)
+          → Kept states ys (set seen x.state n) (i + 1)
+      kept_more e n is = record {
+        rows = length-set seen x.state n ∙ k.rows;
         within = omega arith;
         rest = turn true t;
-        apart = more false f ∙ and-true (deterministic (take i ys)) ∙ k.apart;
-        table = rw front (seen_more seen (take i ys) x k.states s k.table);
+        apart = more false e ∙ and-true (deterministic (take i ys)) ∙ k.apart;
+        table = rw (is, front) (seen_more seen (take i ys) x k.rows row k.table);
       }

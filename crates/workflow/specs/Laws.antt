@@ -1,9 +1,8 @@
 -- What is proved of permissions and workflows. Statements only.
-use Rattle.std.specs.Prelude.{◌≡◌, false, not, ◌&&◌, ◌||◌, List, ℕ, ◌≤◌, ◌<◌, eqb, length, drop}
+use Rattle.std.specs.Prelude.{◌≡◌, false, not, ◌&&◌, ◌||◌, List, ℕ, ◌≤◌, ◌<◌, eqb, length, drop, Some}
 use Rattle.std.proofs.Math.Bool.{So}
 use Rattle.soda.specs.Lists.{all}
 use Rattle.soda.specs.Workflows.{deterministic, successor}
-use Rattle.soda.specs.declared.Successor.TheVariants.{To}
 use Rattle.workflow.specs.declared.Workflow.{Workflow}
 use Rattle.workflow.specs.Permissions.{permissions_ok}
 use Rattle.workflow.specs.Workflows.{transitions_of, no_workflow, is_given, workflow_ok}
@@ -18,7 +17,7 @@ abbrev pub FormedIsDeterministic : Type 0
 FormedIsDeterministic = (w : Workflow) → So (workflow_ok w) → So (deterministic (transitions_of w))
 
 abbrev pub SuccessorIsDeclared : Type 0
-SuccessorIsDeclared = (w : Workflow) (s a n : ℕ) → So (workflow_ok w) → successor (transitions_of w) s a ≡ To n → n < w.states
+SuccessorIsDeclared = (w : Workflow) (s a n : ℕ) → So (workflow_ok w) → successor (transitions_of w) s a ≡ Some n → n < w.states
 
 -- One alone is refused: there is at least one role.
 abbrev pub OneAloneIsRefused : Type 0

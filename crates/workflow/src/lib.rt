@@ -2,7 +2,6 @@
 // plan): read from bytes, tested, and asked.
 #![tactic(auto)]
 
-mod bytes;
 mod permissions;
 mod reading;
 mod sets;
@@ -14,7 +13,8 @@ pub use reading::read;
 use soda::Transition;
 
 // A workflow: its transitions, the set of its final states, bit s for state s, and how many states and transitions there are. It starts in
-// state 0. Transitions past their number are zero. A workflow that is not given is all zero.
+// state 0. Transitions past their number are zero. A workflow that is not given is all zero. An array and a number stand side by side here
+// because a monitor's words lie in fixed memory in this layout, which the C interface shares.
 #[repr(C)]
 #[derive(Clone, Copy)]
 pub struct Workflow {
@@ -25,10 +25,9 @@ pub struct Workflow {
 }
 
 // What an opening is given besides: for each role the set of the actions that it gives, bit a for action a, and the workflow. Where neither
-// is given, and where they are refused, all zero.
+// is given, all zero.
 #[derive(Clone, Copy)]
 pub struct SecureWorkflow {
     pub workflow: Workflow,
     pub permissions: [u64; 16],
-    pub accepted: bool,
 }

@@ -1,10 +1,8 @@
 // Permissions: for each role the set of the actions that it gives, bit a for action a.
-ghost use Rattle.std.specs.Prelude.{◌≡◌};
-ghost use Rattle.std.proofs.Math.Bool.{So};
+ghost use Rattle.std.specs.Prelude.{◌≡◌, ◌+◌, ◌≤◌, length, cond, Some, None};
 ghost use Rattle.soda.specs.Roles.{authorized};
-ghost use Rattle.workflow.specs.Permissions.{permissions_ok, permission_rows};
+ghost use Rattle.workflow.specs.Permissions.{low_first, permissions_ok, permission_rows};
 
-use super::bytes::eight_at;
 use super::sets::has;
 
 // Whether a user who holds these roles is authorized to execute an action: one of them gives it. No role gives one above 63.
@@ -14,36 +12,37 @@ pub fn authorized(permissions: [u64; 16], held: u16, action: u8) -> bool
     if 63 < action {
         return false;
     }
-    let mut role: usize = 0;
-    while role < 16 {
-        if has(held as u64, role as u8) & has(permissions[role], action) {
-            return true;
-        }
-        role += 1;
-    }
-    false
+    (0..16).any(|role| has(u64::from(held), role) & has(permissions[usize::from(role)], action))
 }
 
-// Whether there are eight bytes a role.
-pub(crate) fn permissions_ok(roles: u8, bytes: &[u8]) -> bool
-    ensures { result ≡ permissions_ok roles bytes.now }
+// The row at place k, eight bytes, low byte first.
+fn row_at(bytes: &[u8], k: usize) -> u64
+    requires { k + 8 ≤ length bytes.now }
+    ensures { result ≡ low_first 8 bytes.now k }
 {
-    if 16 < roles {
-        return false;
-    }
-    bytes.len() == roles as usize * 8
+    u64::from_le_bytes([
+        bytes[k],
+        bytes[k + 1],
+        bytes[k + 2],
+        bytes[k + 3],
+        bytes[k + 4],
+        bytes[k + 5],
+        bytes[k + 6],
+        bytes[k + 7],
+    ])
 }
 
-// The rows of the roles, and zeros behind them.
-pub(crate) fn permission_rows(roles: u8, bytes: &[u8]) -> [u64; 16]
-    requires { So (permissions_ok roles bytes.now) }
-    ensures { result ≡ permission_rows roles bytes.now }
+// The rows of so many roles, of eight bytes a role, and zeros behind them; none where the length is another or there are more than 16.
+pub(crate) fn permission_rows(roles: u8, bytes: &[u8]) -> Option<[u64; 16]>
+    ensures { result ≡ cond (permissions_ok roles bytes.now) (Some (permission_rows roles bytes.now)) None }
 {
-    let mut rows = [0u64; 16];
-    let mut role: usize = 0;
-    while role < roles as usize {
-        rows[role] = eight_at(bytes, role * 8);
-        role += 1;
+    let count = usize::from(roles);
+    if (16 < count) || (bytes.len() != count * 8) {
+        return None;
     }
-    rows
+    let mut rows = [0; 16];
+    for role in 0..count {
+        rows[role] = row_at(bytes, role * 8);
+    }
+    Some(rows)
 }

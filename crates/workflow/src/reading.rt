@@ -1,12 +1,10 @@
 // Permissions and workflow as an opening is given them, in bytes.
-ghost use Rattle.std.specs.Prelude.{◌≡◌, ◌++◌, ◌+◌, ◌-◌, ◌*◌, ◌≤◌, length, replicate};
-ghost use Rattle.std.proofs.Math.Bool.{So};
+ghost use Rattle.std.specs.Prelude.{◌≡◌, ◌++◌, ◌+◌, ◌-◌, ◌*◌, ◌≤◌, length, replicate, cond, Some, None};
 ghost use Rattle.soda.specs.Workflows.{no_transition};
 ghost use Rattle.workflow.specs.Workflows.{transition_at, transitions_in, workflow_of};
-ghost use Rattle.workflow.specs.Reading.{workflow_length_ok, not_given, secure_of};
+ghost use Rattle.workflow.specs.Reading.{workflow_length_ok, as_read, secure_of};
 
-use super::bytes::two_at;
-use super::permissions::{permission_rows, permissions_ok};
+use super::permissions::permission_rows;
 use super::{SecureWorkflow, Workflow};
 use soda::Transition;
 
@@ -27,78 +25,52 @@ fn transitions_of(bytes: &[u8], count: usize) -> [Transition; 64]
     requires { (count ≤ 64) × (4 + 3 * count ≤ length bytes.now) }
     ensures { result ≡ transitions_in bytes.now count ++ replicate (64 - count) no_transition }
 {
-    let mut transitions = [Transition {
-        state: 0,
-        action: 0,
-        next: 0,
-    }; 64];
-    let mut i = 0;
-    while i < count {
+    let mut transitions = [Transition::IDLE; 64];
+    for i in 0..count {
         transitions[i] = transition_at(bytes, 4 + 3 * i);
-        i += 1;
     }
     transitions
 }
 
-// Whether there are four bytes, and behind them three a transition, of at most 64.
-fn workflow_length_ok(bytes: &[u8]) -> bool
-    ensures { result ≡ workflow_length_ok bytes.now }
+// The workflow that bytes say: four, and behind them three a transition, of at most 64. None where there are more or fewer.
+#[tactic(auto, unfolding(crate::specs::Workflows::workflow_of))]
+fn workflow_of(bytes: &[u8]) -> Option<Workflow>
+    ensures { result ≡ cond (workflow_length_ok bytes.now) (Some (workflow_of bytes.now)) None }
 {
     if bytes.len() < 4 {
-        return false;
+        return None;
     }
-    let count = bytes[1] as usize;
-    if 64 < count {
-        return false;
-    }
-    bytes.len() == 4 + 3 * count
-}
-
-// The workflow that bytes of such a length say.
-fn workflow_of(bytes: &[u8]) -> Workflow
-    requires { So (workflow_length_ok bytes.now) }
-    ensures { result ≡ workflow_of bytes.now }
-{
     let count = bytes[1];
-    let transitions = transitions_of(bytes, count as usize);
-    Workflow {
-        transitions,
-        final_states: two_at(bytes, 2),
+    let transition_count = usize::from(count);
+    if (64 < count) || (bytes.len() != 4 + 3 * transition_count) {
+        return None;
+    }
+    Some(Workflow {
+        transitions: transitions_of(bytes, transition_count),
+        final_states: u16::from_le_bytes([bytes[2], bytes[3]]),
         states: bytes[0],
         count,
-    }
+    })
 }
 
-// Neither given, or both refused.
-fn without(accepted: bool) -> SecureWorkflow
-    ensures { result ≡ not_given accepted }
+// Reads permissions, for so many roles, and a workflow, where both are empty, and where both are in form.
+#[tactic(auto, unfolding(crate::specs::Workflows::no_workflow, crate::specs::Reading::says_workflow, crate::specs::Reading::not_given, crate::specs::Reading::secure_of))]
+pub fn read(roles: u8, permissions: &[u8], workflow: &[u8]) -> Option<SecureWorkflow>
+    ensures { as_read result ≡ secure_of roles permissions.now workflow.now }
 {
-    SecureWorkflow {
-        accepted,
-        permissions: [0; 16],
-        workflow: Workflow::BLANK,
+    if permissions.is_empty() & workflow.is_empty() {
+        return Some(SecureWorkflow {
+            workflow: Workflow::BLANK,
+            permissions: [0; 16],
+        });
     }
-}
-
-// Reads permissions, for so many roles, and a workflow: accepted where both are empty, and where both are in form.
-pub fn read(roles: u8, permissions: &[u8], workflow: &[u8]) -> SecureWorkflow
-    ensures { result ≡ secure_of roles permissions.now workflow.now }
-{
-    let empty = (permissions.len() == 0) & (workflow.len() == 0);
-    if !permissions_ok(roles, permissions) {
-        return without(empty);
+    let permissions = permission_rows(roles, permissions)?;
+    let workflow = workflow_of(workflow)?;
+    if !(workflow.is_given() & workflow.is_well_formed()) {
+        return None;
     }
-    if !workflow_length_ok(workflow) {
-        return without(empty);
-    }
-    let said = workflow_of(workflow);
-    if !(said.is_given() & said.is_well_formed()) {
-        return without(empty);
-    }
-    let rows = permission_rows(roles, permissions);
-    SecureWorkflow {
-        accepted: true,
-        permissions: rows,
-        workflow: said,
-    }
+    Some(SecureWorkflow {
+        workflow,
+        permissions,
+    })
 }

@@ -1,5 +1,5 @@
 // Sets of numbers below 64, bit i for i: actions, roles and states.
-ghost use Rattle.std.specs.Prelude.{◌≡◌, false, ◌<◌};
+ghost use Rattle.std.specs.Prelude.{◌≡◌, ◌<◌};
 ghost use Rattle.soda.specs.Bits.{bit, set_bit};
 
 // Whether i is in a set.
@@ -10,10 +10,10 @@ pub(crate) fn has(set: u64, i: u8) -> bool
     (set >> i) & 1 == 1
 }
 
-// The set with i, which is not in it: so a sum adds its bit.
+// The set with i.
 pub(crate) fn with_one(set: u64, i: u8) -> u64
-    requires { (i < 64) × (bit i set ≡ false) }
+    requires { i < 64 }
     ensures { result ≡ set_bit i set }
 {
-    set + (1 << i)
+    set | 1 << i
 }

@@ -1,40 +1,27 @@
-// Transitions in an array, a number of them in use.
-ghost use Rattle.std.specs.Prelude.{◌≡◌, ◌&&◌, ◌≤◌, take, drop};
+// Transitions: whether one is taken, and whether they are as they must be.
+ghost use Rattle.std.specs.Prelude.{◌≡◌, ◌&&◌, ◌≤◌};
 ghost use Rattle.soda.specs.Lists.{all};
 ghost use Rattle.soda.specs.Workflows.{leaves, deterministic, successor};
-ghost use Rattle.workflow.specs.Workflows.{is_idle, transition_ok};
+ghost use Rattle.workflow.specs.Workflows.{transition_ok};
 
 use super::sets::{has, with_one};
-use soda::{Successor, Transition};
+use soda::Transition;
 
 // Whether an action takes a transition in a state.
 fn leaves_by(transition: Transition, state: u32, action: u8) -> bool
     ensures { result ≡ leaves state action transition }
 {
-    (transition.state as u32 == state) & (transition.action == action)
+    (u32::from(transition.state) == state) & (transition.action == action)
 }
 
-// Where an action leads from a state, by the first so many transitions.
-pub(crate) fn successor_in(
-    transitions: [Transition; 64],
-    count: usize,
-    state: u32,
-    action: u8,
-) -> Successor
-    ensures { result ≡ successor (take count transitions) state action }
+// Where an action leads from a state.
+pub(crate) fn successor_in(transitions: &[Transition], state: u32, action: u8) -> Option<u8>
+    ensures { result ≡ successor transitions.now state action }
 {
-    let mut i = 0;
-    while i < 64 {
-        if count <= i {
-            return Successor::Nowhere;
-        }
-        let transition = transitions[i];
-        if leaves_by(transition, state, action) {
-            return Successor::To(transition.next);
-        }
-        i += 1;
-    }
-    Successor::Nowhere
+    transitions
+        .iter()
+        .find(|transition| leaves_by(**transition, state, action))
+        .map(|transition| transition.next)
 }
 
 // Whether a transition's states are declared, so many, and its action is one of 0 to 63.
@@ -44,16 +31,14 @@ fn transition_ok(states: u8, transition: Transition) -> bool
     (transition.state < states) & ((transition.next < states) & (transition.action < 64))
 }
 
-// Whether each of the first so many transitions is so, and no two of them have the same state and action: of each state, the actions of the
-// transitions before are kept.
-pub(crate) fn transitions_ok(states: u8, transitions: [Transition; 64], count: usize) -> bool
-    requires { (states ≤ 16) × (count ≤ 64) }
-    ensures { result ≡ (all (transition_ok states) (take count transitions) && deterministic (take count transitions)) }
+// Whether each transition is so, and no two of them have the same state and action: of each state, the actions of the transitions before are
+// kept.
+pub(crate) fn transitions_ok(states: u8, transitions: &[Transition]) -> bool
+    requires { states ≤ 16 }
+    ensures { result ≡ (all (transition_ok states) transitions.now && deterministic transitions.now) }
 {
     let mut seen = [0u64; 16];
-    let mut i = 0;
-    while i < count {
-        let transition = transitions[i];
+    for &transition in transitions {
         if !transition_ok(states, transition) {
             return false;
         }
@@ -63,27 +48,6 @@ pub(crate) fn transitions_ok(states: u8, transitions: [Transition; 64], count: u
             return false;
         }
         seen[state] = with_one(actions, transition.action);
-        i += 1;
     }
     true
-}
-
-// Whether an unused place is all zero.
-fn is_idle(transition: Transition) -> bool
-    ensures { result ≡ is_idle transition }
-{
-    (transition.state == 0) & ((transition.action == 0) & (transition.next == 0))
-}
-
-// Whether the places from one on are unused.
-pub(crate) fn idle_transitions(transitions: [Transition; 64], from: usize) -> bool
-    ensures { result ≡ all is_idle (drop from transitions) }
-{
-    let mut idle = true;
-    let mut i = from;
-    while i < 64 {
-        idle = idle & is_idle(transitions[i]);
-        i += 1;
-    }
-    idle
 }

@@ -60,12 +60,11 @@ pub coded-take : {either both : ℕ} {places : List ℕ} (ops : List ℕ) (n : �
 coded-take ops n b o j h =
     let k : j < n = omega (arith, h, length-take-le n ops b) in subst (λ x. x < 1024) (sym (get_or-take n ops j 0 k)) (o.coded j k)
 
--- the users of the taken actions
-pub taken-user : (l : List Action) (n j : ℕ) → So (all (λ a. ltb a.user 16) (take n l)) → j < n → j < length l → (get_or l j (record { user = 0; met = 0 })).user < 16
-taken-user [] n j a h k = absurd (omega arith)
-taken-user (x ∷ l) zero j a h k = absurd (omega arith)
-taken-user (x ∷ l) (suc n) zero a h k = so_lt x.user 16 (and_split (ltb x.user 16) (all (λ b. ltb b.user 16) (take n l)) a).0
-taken-user (x ∷ l) (suc n) (suc j) a h k = taken-user l n j (and_split (ltb x.user 16) (all (λ b. ltb b.user 16) (take n l)) a).1 (omega arith) (omega arith)
+-- the user of one of the actions
+pub user-below : (l : List Action) (j : ℕ) → So (all (λ a. ltb a.user 16) l) → j < length l → (get_or l j (record { user = 0; met = 0 })).user < 16
+user-below [] j a h = absurd (omega arith)
+user-below (x ∷ l) zero a h = so_lt x.user 16 (and_split (ltb x.user 16) (all (λ b. ltb b.user 16) l) a).0
+user-below (x ∷ l) (suc j) a h = user-below l j (and_split (ltb x.user 16) (all (λ b. ltb b.user 16) l) a).1 (omega arith)
 
 -- ── the list ──
 module _ (φ : Term) (l : List Action) (cap : 2 ^ length l ≤ 4096) where
@@ -134,53 +133,47 @@ pub bit-is-judged : BitIsJudged
 unfolding row_of
 bit-is-judged e φ l s i h = bit-number (map (judged e φ (select s l)) (range 0 (size φ))) i ∙ map_below (judged e φ (select s l)) false (size φ) i h
 
--- what the sets below 2^n have, zeros behind them, and the rest of the workspace
-pub record Whole (φ : Term) (l : List Action) (n : ℕ) (room after : List ℕ) : Type 0 where
-  pub satisfied : (x : ℕ) → x < 2 ^ n → get_or after x 0 ≡ row_of false φ l x
-  pub possible : (x : ℕ) → x < 2 ^ n → get_or after (4096 + x) 0 ≡ row_of true φ l x
-  pub low : (k : ℕ) → 2 ^ n ≤ k → k < 4096 → get_or after k 0 ≡ 0
-  pub high : (k : ℕ) → 4096 + 2 ^ n ≤ k → k < 8192 → get_or after k 0 ≡ 0
+-- what the sets of the actions have, zeros behind them, and the rest of the workspace
+pub record Whole (φ : Term) (l : List Action) (room after : List ℕ) : Type 0 where
+  pub satisfied : (x : ℕ) → x < 2 ^ length l → get_or after x 0 ≡ row_of false φ l x
+  pub possible : (x : ℕ) → x < 2 ^ length l → get_or after (4096 + x) 0 ≡ row_of true φ l x
+  pub low : (k : ℕ) → 2 ^ length l ≤ k → k < 4096 → get_or after k 0 ≡ 0
+  pub high : (k : ℕ) → 4096 + 2 ^ length l ≤ k → k < 8192 → get_or after k 0 ≡ 0
   pub rest : (k : ℕ) → 8192 ≤ k → get_or after k 0 ≡ get_or room k 0
 
 pub row-take : (e : Bool) (φ : Term) (l : List Action) (n x : ℕ) → x < 2 ^ n → row_of e φ l x ≡ row_of e φ (take n l) x
 unfolding row_of
 row-take e φ l n x h = ap (λ k. number (map (judged e φ k) (range 0 (size φ)))) (sym (select-take n l x h))
 
-pub whole_is : (φ : Term) (l : List Action) (n : ℕ) (room after : List ℕ) → n ≤ 12 → n ≤ length l → 8192 ≤ length room → length after ≡ length room
-    → Whole φ l n room after → after ≡ filled φ (take n l) room
-whole_is φ l n room after h k b e w = ext_get_or 0 after (filled φ L room) (e ∙ sym (filled-length φ L cap room b)) (λ i _. at i (lt_or_le i 4096) (lt_or_le i 8192))
+pub whole_is : (φ : Term) (l : List Action) (room after : List ℕ) → length l ≤ 12 → 8192 ≤ length room → length after ≡ length room
+    → Whole φ l room after → after ≡ filled φ l room
+whole_is φ l room after h b e w = ext_get_or 0 after (filled φ l room) (e ∙ sym (filled-length φ l cap room b)) (λ i _. at i (lt_or_le i 4096) (lt_or_le i 8192))
   where
-    L : List Action
-    L = take n l
+    cap : 2 ^ length l ≤ 4096
+    cap = pow_mono {j = 12} h
 
-    power : 2 ^ length L ≡ 2 ^ n
-    power = ap (λ m. 2 ^ m) (length-take-le n l k)
+    low : (i : ℕ) → i < 4096 → (i < 2 ^ length l) ⊎ (2 ^ length l ≤ i) → get_or after i 0 ≡ get_or (column false φ l) i 0
+    low i c (inl d) = w.satisfied i d ∙ sym (column_at φ l cap false i d)
+    low i c (inr d) = w.low i d c ∙ sym (column-past φ l cap false i d c)
 
-    cap : 2 ^ length L ≤ 4096
-    cap = omega (arith, power, pow_mono {j = 12} h)
+    high : (i : ℕ) → i < 4096 → (i < 2 ^ length l) ⊎ (2 ^ length l ≤ i) → get_or after (4096 + i) 0 ≡ get_or (column true φ l) i 0
+    high i c (inl d) = w.possible i d ∙ sym (column_at φ l cap true i d)
+    high i c (inr d) = w.high (4096 + i) (omega arith) (omega arith) ∙ sym (column-past φ l cap true i d c)
 
-    low : (i : ℕ) → i < 4096 → (i < 2 ^ n) ⊎ (2 ^ n ≤ i) → get_or after i 0 ≡ get_or (column false φ L) i 0
-    low i c (inl d) = w.satisfied i d ∙ row-take false φ l n i d ∙ sym (column_at φ L cap false i (omega (arith, power)))
-    low i c (inr d) = w.low i d c ∙ sym (column-past φ L cap false i (omega (arith, power)) c)
-
-    high : (i : ℕ) → i < 4096 → (i < 2 ^ n) ⊎ (2 ^ n ≤ i) → get_or after (4096 + i) 0 ≡ get_or (column true φ L) i 0
-    high i c (inl d) = w.possible i d ∙ row-take true φ l n i d ∙ sym (column_at φ L cap true i (omega (arith, power)))
-    high i c (inr d) = w.high (4096 + i) (omega arith) (omega arith) ∙ sym (column-past φ L cap true i (omega (arith, power)) c)
-
-    at : (i : ℕ) → (i < 4096) ⊎ (4096 ≤ i) → (i < 8192) ⊎ (8192 ≤ i) → get_or after i 0 ≡ get_or (filled φ L room) i 0
-    at i (inl c) o = low i c (lt_or_le i (2 ^ n)) ∙ sym (filled-low φ L cap room i c)
+    at : (i : ℕ) → (i < 4096) ⊎ (4096 ≤ i) → (i < 8192) ⊎ (8192 ≤ i) → get_or after i 0 ≡ get_or (filled φ l room) i 0
+    at i (inl c) o = low i c (lt_or_le i (2 ^ length l)) ∙ sym (filled-low φ l cap room i c)
     at i (inr c) (inl d) =
         let z : 4096 + (i - 4096) ≡ i = omega arith in
-        subst (λ m. get_or after m 0 ≡ get_or (filled φ L room) m 0) z
-        (high (i - 4096) (omega arith) (lt_or_le (i - 4096) (2 ^ n)) ∙ sym (filled-high φ L cap room (i - 4096) (omega arith)))
+        subst (λ m. get_or after m 0 ≡ get_or (filled φ l room) m 0) z
+        (high (i - 4096) (omega arith) (lt_or_le (i - 4096) (2 ^ length l)) ∙ sym (filled-high φ l cap room (i - 4096) (omega arith)))
     at i (inr c) (inr d) =
         let z : 8192 + (i - 8192) ≡ i = omega arith in
-        w.rest i d ∙ subst (λ m. get_or room m 0 ≡ get_or (filled φ L room) m 0) z (sym (filled-rest φ L cap room (i - 8192)))
+        w.rest i d ∙ subst (λ m. get_or room m 0 ≡ get_or (filled φ l room) m 0) z (sym (filled-rest φ l cap room (i - 8192)))
 
 -- the rows in a workspace that was cleared
-pub whole : {m : Masks} {ops : List ℕ} {l : List Action} (φ : Term) (n : ℕ) (room cleared after : List ℕ) → n ≤ 12 → Cleared 8192 room cleared
-    → RowsStand m ops l (2 ^ n) cleared after → Suited φ m ops → Whole φ l n room after
-whole φ n room cleared after h c r u = record {
+pub whole : {m : Masks} {ops : List ℕ} (φ : Term) (l : List Action) (room cleared after : List ℕ) → length l ≤ 12 → Cleared 8192 room cleared
+    → RowsStand m ops l (2 ^ length l) cleared after → Suited φ m ops → Whole φ l room after
+whole φ l room cleared after h c r u = record {
   satisfied = r.satisfied φ u;
   possible = r.possible φ u;
   low = λ x p b. r.kept.low x p b ∙ c.zeros x (omega arith);

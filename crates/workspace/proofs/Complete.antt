@@ -1,15 +1,15 @@
 -- A row completed from the last word to the first: a word's sides stand behind it, so that no later step changes them.
 use mathlib.Core.Path.{◌≡◌, refl, sym, ap, ap₂, ◌∙◌, subst}
 use mathlib.Core.Bool.{Bool, true, false, So, ◌&&◌, ◌||◌, true≢false, and-true, and-false, or-false}
-use mathlib.Core.List.{List}
+use mathlib.Core.List.{List, [], ◌∷◌, ◌++◌}
 use mathlib.Core.Logic.{◌⊎◌, inl, inr}
 use Prim.Native.Nat.{ℕ, suc, ◌+◌, ◌-◌, ◌*◌, ◌/◌, ◌%◌, ◌^◌, ◌≤◌, ◌<◌}
 use native.Mathlib.Nat.{eq-or-lt_of_le}
 use native.Mathlib.Omega.{arith}
 use borrow.Author.Tests.{eq-eqb, ne_eqb}
 use lib.Bits.{bit_and, bit_or}
-use lib.ListN.{length, get_or, set, length-set}
-use lib.Seq.{get_or-set_same, get_or-set_other}
+use lib.ListN.{length, get_or, set, take, length-set, length-append}
+use lib.Seq.{get_or-set_same, get_or-set_other, get_or-take, get_or-append-add, take-length, take-append_seam, take-take}
 use Rattle.soda.specs.Bits.{bit}
 use Rattle.soda.proofs.Bools.{not_so, or_left, or_right, and-join}
 use Rattle.soda.proofs.Bits.{bit_of_zero}
@@ -148,6 +148,9 @@ pub record Walked (base either both : ℕ) (places ops : List ℕ) (row right n 
   pub before : Listing either both places ops n at
   pub done : Done base either both places row right at
 
+pub walk_begin : {base either both : ℕ} {places ops : List ℕ} {n : ℕ} → Listing either both places ops n (length places) → Walked base either both places ops base 0 n
+walk_begin {base} {either} {both} {places} l = record { at = length places; before = l; done = begin base either both places }
+
 module _ (base either both : ℕ) (places ops : List ℕ) (asc : Ascending places) where
   one_word : (row right w row' right' : ℕ) → Done base either both places row right (suc w) → Placed either both row right w (get_or places w 0) row' right'
       → Done base either both places row' right' w
@@ -275,3 +278,36 @@ module _ {either both : ℕ} {places start : List ℕ} where
     listing = subst (Listing either both places ops n) e g.listing;
     coded = g.coded;
   }
+
+-- ── the operators from the last to the first ──
+-- those that are left stand first
+pub record Left (ops rest : List ℕ) : Type 0 where
+  pub bound : length rest ≤ length ops
+  pub first : rest ≡ take (length rest) ops
+
+pub left_all : (ops rest : List ℕ) → rest ≡ ops → Left ops rest
+left_all ops rest e = subst (Left ops) (sym e) (record { bound = omega arith; first = sym (take-length ops) })
+
+-- the last of them, and the others
+pub record LastOf (ops rest rest' : List ℕ) (x : ℕ) : Type 0 where
+  pub some : 0 < length rest
+  pub less : length rest - 1 ≡ length rest'
+  pub is : x ≡ get_or ops (length rest - 1) 0
+  pub left : Left ops rest'
+
+pub last_left : (ops rest rest' : List ℕ) (x : ℕ) → Left ops rest → rest ≡ rest' ++ (x ∷ []) → LastOf ops rest rest' x
+last_left ops rest rest' x l e = record {
+  some = omega (arith, n);
+  less = omega (arith, n);
+  is = sym (ap (λ q. get_or q (length rest - 1) 0) (sym l.first ∙ e) ∙ here) ∙ get_or-take (length rest) ops (length rest - 1) 0 (omega (arith, n));
+  left = record {
+    bound = omega (arith, n, l.bound);
+    first = sym (take-append_seam rest' (x ∷ [])) ∙ ap (take (length rest')) (sym e ∙ l.first) ∙ take-take (length rest') (length rest) ops (omega (arith, n));
+  };
+}
+  where
+    n : length rest ≡ length rest' + 1
+    n = ap length e ∙ length-append rest' (x ∷ [])
+
+    here : get_or (rest' ++ (x ∷ [])) (length rest - 1) 0 ≡ x
+    here = let z : length rest - 1 ≡ length rest' + 0 = omega (arith, n) in ap (λ i. get_or (rest' ++ (x ∷ [])) i 0) z ∙ get_or-append-add rest' (x ∷ []) 0 0

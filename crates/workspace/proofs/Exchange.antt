@@ -1,6 +1,6 @@
 -- Sets with the same actions: one action for another that is alike it, and one action more on both.
 use mathlib.Core.Path.{◌≡◌, refl, sym, ◌∙◌, ap, ap₂, subst, fun_ext}
-use mathlib.Core.Bool.{Bool, true, false, So, cond, true≢false}
+use mathlib.Core.Bool.{Bool, true, false, So, ◌&&◌, cond, true≢false}
 use mathlib.Core.List.Perm
 use mathlib.Core.List.{List, [], ◌∷◌, ◌++◌, map, append_assoc, Perm}
 use mathlib.Core.Logic.{⊎_elim}
@@ -10,7 +10,8 @@ use native.Mathlib.Omega.{arith}
 use lib.Arith.{bin_ind}
 use lib.Bits.{bit_and, bit_or, and_step, and_self, and_comm, or_lt}
 use lib.Dec.{eqb, ltb}
-use lib.ListN.{length, get_or}
+use lib.ListN.{length, get_or, get_or-append}
+use lib.Seq.{get_or-append-add}
 use lib.Pow.{pow_mono, pow-lt}
 use Rattle.soda.specs.Bits.{bit, number}
 use Rattle.soda.specs.Lists.{range}
@@ -18,7 +19,7 @@ use Rattle.soda.specs.Terms.{Term, size, term_at}
 use Rattle.soda.proofs.Bools.{not_so, and_split, and-join, or_split, so_lt, so_eq, eq_so}
 use Rattle.soda.proofs.Bits.{bit-suc, bit_of_zero, even, odd}
 use Rattle.soda.proofs.Orders.{order_plays_no_part, perm_last}
-use Rattle.rows.specs.Twins.{is_alike, spare_of, first_of, twin_of}
+use Rattle.rows.specs.Twins.{spare_of, first_of, twin_of}
 use Rattle.rows.proofs.Digits.{bit-and, bit-or, bit_power}
 use Rattle.workspace.specs.Workspace.{select, judged, row_of}
 use Rattle.workspace.specs.Private.{AlikePlaces, Twin, itself, other_set, other_action}
@@ -157,45 +158,49 @@ unfolding row_of
 row-twin e φ l x s p = ap (λ f. number (map f (range 0 (size φ)))) (fun_ext (judged-twin φ (select x l) (select s l) p e))
 
 -- ── the places of alike actions ──
-alike_is : (a b : Action) → So (is_alike a b) → a ≡ b
+-- equal by both fields
+pub alike_is : (a b : Action) → So (eqb a.user b.user && eqb a.met b.met) → a ≡ b
 alike_is a b o =
     let (p, q) = and_split (eqb a.user b.user) (eqb a.met b.met) o in
     ap₂ (λ u m. record { user = u; met = m }) (so_eq a.user b.user p) (so_eq a.met b.met q)
 
--- those before k, of the places before j
-pub record Finding (l : List Action) (j k r : ℕ) : Type 0 where
-  pub bound : k ≤ j
+-- those before k
+pub record Finding (l : List Action) (a : Action) (k r : ℕ) : Type 0 where
   pub below : r < 2 ^ k
-  pub same : (i : ℕ) → So (bit i r) → (i < k) × (get_or l i (record { user = 0; met = 0 }) ≡ get_or l j (record { user = 0; met = 0 }))
+  pub same : (i : ℕ) → So (bit i r) → (i < k) × (get_or l i (record { user = 0; met = 0 }) ≡ a)
 
-module _ (l : List Action) (j : ℕ) where
-  pub find_begin : Finding l j 0 0
-  find_begin = record { bound = omega arith; below = omega arith; same = λ i o. absurd (true≢false (sym o ∙ bit_of_zero i)) }
+module _ (l : List Action) (a : Action) where
+  pub find_begin : Finding l a 0 0
+  find_begin = record { below = omega arith; same = λ i o. absurd (true≢false (sym o ∙ bit_of_zero i)) }
 
-  module _ (k r : ℕ) (h : k < j) (f : Finding l j k r) where
-    pub find_skip : Finding l j (k + 1) r
+  module _ (k r : ℕ) (f : Finding l a k r) where
+    pub find_skip : Finding l a (k + 1) r
     find_skip = record {
-      bound = omega arith;
       below = omega (arith, f.below, pow_mono {i = k} {j = k + 1} (omega arith));
       same = λ i o. let q = f.same i o in (omega (arith, q.0), q.1);
     }
 
-    pub find_take : So (is_alike (get_or l k (record { user = 0; met = 0 })) (get_or l j (record { user = 0; met = 0 }))) → Finding l j (k + 1) (bit_or r (2 ^ k))
-    find_take o = record {
-      bound = omega arith;
+    pub find_take : get_or l k (record { user = 0; met = 0 }) ≡ a → Finding l a (k + 1) (bit_or r (2 ^ k))
+    find_take e = record {
       below = or_lt (k + 1) r (2 ^ k) (omega (arith, f.below, pow_mono {i = k} {j = k + 1} (omega arith))) (pow-lt (omega arith));
       same = λ i b. ⊎_elim (old i) (new i) (or_split (bit i r) (bit i (2 ^ k)) (sym (bit-or i r (2 ^ k)) ∙ b));
     }
       where
-        old : (i : ℕ) → So (bit i r) → (i < k + 1) × (get_or l i (record { user = 0; met = 0 }) ≡ get_or l j (record { user = 0; met = 0 }))
+        old : (i : ℕ) → So (bit i r) → (i < k + 1) × (get_or l i (record { user = 0; met = 0 }) ≡ a)
         old i b = let q = f.same i b in (omega (arith, q.0), q.1)
 
-        new : (i : ℕ) → So (bit i (2 ^ k)) → (i < k + 1) × (get_or l i (record { user = 0; met = 0 }) ≡ get_or l j (record { user = 0; met = 0 }))
-        new i b =
-            let e : i ≡ k = so_eq i k (sym (bit_power i k) ∙ b) in
-            (omega arith, ap (λ n. get_or l n (record { user = 0; met = 0 })) e ∙ alike_is (get_or l k (record { user = 0; met = 0 })) (get_or l j (record { user = 0; met = 0 })) o)
+        new : (i : ℕ) → So (bit i (2 ^ k)) → (i < k + 1) × (get_or l i (record { user = 0; met = 0 }) ≡ a)
+        new i b = let z : i ≡ k = so_eq i k (sym (bit_power i k) ∙ b) in (omega arith, ap (λ n. get_or l n (record { user = 0; met = 0 })) z ∙ e)
 
-  pub find_end : (k r : ℕ) → j ≤ k → Finding l j k r → AlikePlaces l j r
-  find_end k r h f =
-      let e : k ≡ j = omega (arith, f.bound) in
-      record { below = subst (λ n. r < 2 ^ n) e f.below; same = λ i o. let q = f.same i o in (omega (arith, q.0), q.1) }
+  pub find_end : (k r : ℕ) → k ≡ length l → Finding l a k r → AlikePlaces (l ++ (a ∷ [])) (length l) r
+  find_end k r e f = record {
+    below = subst (λ n. r < 2 ^ n) e f.below;
+    same = λ i o.
+        let q = f.same i o in
+        let b : i < length l = omega (arith, q.0) in
+        let z : length l ≡ length l + 0 = omega arith in (
+          b,
+          get_or-append l (a ∷ []) _ i b ∙ q.1
+              ∙ sym (ap (λ n. get_or (l ++ (a ∷ [])) n (record { user = 0; met = 0 })) z ∙ get_or-append-add l (a ∷ []) 0 (record { user = 0; met = 0 })),
+        );
+  }

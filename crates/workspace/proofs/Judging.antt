@@ -19,11 +19,11 @@ use Rattle.soda.proofs.Tables.{empty_set}
 use Rattle.soda.proofs.Parts.{part_is-possible, satisfied-is-possible}
 use Rattle.shape.specs.Shapes.{is_plus, is_op, right_sides}
 use Rattle.rows.specs.Rows.{place, Packed, Chance, based}
-use Rattle.rows.specs.Notes.{users_in}
 use Rattle.rows.proofs.Digits.{bit-or, bit-ones, in_both}
 use Rattle.workspace.specs.Workspace.{select, judged}
-use Rattle.workspace.specs.Private.{left_at, note_at, Part, Joined, matched_apart, jointly, by_sides, Finished, Suited, RowIs, SidesAt}
+use Rattle.workspace.specs.Private.{left_at, users_at, Part, Joined, matched_apart, jointly, by_sides, Finished, Suited, RowIs, SidesAt}
 use Rattle.soda.specs.declared.Action.{Action}
+use Rattle.workspace.specs.declared.entry.Entry.{Entry}
 use Rattle.workspace.specs.declared.masks.Masks.{Masks}
 use Rattle.workspace.proofs.Submask.{Within}
 use Rattle.workspace.proofs.Select.{cut}
@@ -105,7 +105,7 @@ to_possible true ψ i l h = h
 to_possible false ψ i l h = satisfied-is-possible Action (λ a. a.user) (λ t k a. bit k a.met) ψ i l h
 
 -- all that the steps of a row with at least one action ensure
-pub record Stepped (φ : Term) (l : List Action) (m : Masks) (ops sets : List ℕ) (s ones met joint base row right : ℕ) : Type 0 where
+pub record Stepped (φ : Term) (l : List Action) (m : Masks) (ops : List ℕ) (sets : List Entry) (s ones met joint base row right : ℕ) : Type 0 where
   pub suited : Suited φ m ops
   pub known : (x : ℕ) → x < s → SidesAt φ l sets x
   pub some : ones ≡ 0 → ⊥
@@ -120,7 +120,7 @@ pub record Stepped (φ : Term) (l : List Action) (m : Masks) (ops sets : List �
   pub is_base : (q : ℕ) → bit q base ≡ (based m.units m.plus met ones q || bit q joint)
   pub finished : Finished base m.either m.both (right_sides 0 φ) row right
 
-module _ {φ : Term} {l : List Action} {m : Masks} {ops sets : List ℕ} {s ones met joint base row right : ℕ}
+module _ {φ : Term} {l : List Action} {m : Masks} {ops : List ℕ} {sets : List Entry} {s ones met joint base row right : ℕ}
     (F : Stepped φ l m ops sets s ones met joint base row right) where
   abbrev S : List Action
   S = select s l
@@ -209,8 +209,8 @@ module _ {φ : Term} {l : List Action} {m : Masks} {ops sets : List ℕ} {s ones
         let one = a.lefts e i (omega (arith, st.stands.inside, size_pos α, size_pos β)) ∙ judged_at (stood_left st) e (select x l) in
         let two = b.rights e i (below st e) (ap (λ t. is_op together t || is_op apart t) (stands_here st.stands) ∙ here)
         ∙ ap (judged e φ (select (s - x) l)) (right_side st) ∙ judged_at (stood_right st) e (select (s - x) l) in
-        let users-agree = agreed op α β u (eqb (bit_and (users_in (note_at sets x)) (users_in (note_at sets (s - x)))) 0) (bit (place e i) m.anyone) (select x l) (select (s - x) l)
-        (disjoint_masks (λ a. a.user) (users_in (note_at sets x)) (users_in (note_at sets (s - x))) (select x l) (select (s - x) l) a.acting b.acting)
+        let users-agree = agreed op α β u (eqb (bit_and (users_at sets x) (users_at sets (s - x))) 0) (bit (place e i) m.anyone) (select x l) (select (s - x) l)
+        (disjoint_masks (λ a. a.user) (users_at sets x) (users_at sets (s - x)) (select x l) (select (s - x) l) a.acting b.acting)
         (mark st e (is_op together) m.anyone F.suited.masked.anyone) in
         ◌∙◌ {c = parted (λ a. a.user) (judge e α (1 + i)) (judge e β (1 + i + size α)) op l s x} (λ t. (one t && two t) && users-agree t)
         (and_assoc (judge e α (1 + i) (select x l)) (judge e β (1 + i + size α) (select (s - x) l)) (agree (λ a. a.user) op (select x l) (select (s - x) l)))

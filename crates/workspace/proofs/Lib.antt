@@ -6,7 +6,6 @@ pub mod Subterms
 pub mod Joint
 pub mod Judging
 pub mod Exchange
-pub mod Table
 pub mod Entries
 pub mod Columns
 pub mod Verdicts

@@ -1,16 +1,16 @@
 -- Users tried in place of the last action: what the table says of each, of users alike, and of all.
 use mathlib.Core.Path.{◌≡◌, refl, sym, ◌∙◌, ap, ap₂, subst}
 use mathlib.Core.Bool.{Bool, true, false, ◌&&◌, ◌||◌, or-false}
-use mathlib.Core.List.{List, [], ◌∷◌, ◌++◌, map, Perm}
+use mathlib.Core.List.{List, [], ◌∷◌, ◌++◌, map}
 use mathlib.Core.Logic.{◌⊎◌, inl, inr}
 use Prim.Native.Nat.{ℕ, ◌+◌, ◌-◌, ◌^◌, ◌≤◌, ◌<◌}
 use native.Mathlib.Nat.{lt_of_lt_of_le}
-use native.Mathlib.Numerals.{add-one}
 use native.Mathlib.Omega.{arith}
 use lib.Dec.{eqb}
-use lib.ListN.{length, get_or, take, set, length-set, length-map, get_or-eq_default}
+use lib.ListN.{length, get_or, take, length-map, length-append, get_or-eq_default}
 use lib.Pow.{pow_mono, pow_pos}
-use lib.Seq.{get_or-set_same, take-set-le, take-suc-set, take-suc, length-take-le}
+use Rattle.std.proofs.lemmas.List.{take_more}
+use lib.Seq.{take-length, take-append_seam, length-take-le}
 use Rattle.soda.specs.Bits.{bit, number}
 use Rattle.soda.specs.Lists.{range}
 use Rattle.soda.specs.Terms.{Term}
@@ -21,40 +21,19 @@ use Rattle.soda.proofs.Bits.{bit-number, number_lt, bit_of_zero}
 use Rattle.soda.proofs.Lists.{range_length, map_below}
 use Rattle.soda.proofs.Renaming.{new-user-is_renamed}
 use Rattle.rows.specs.Rows.{possible_in}
-use Rattle.rows.specs.Notes.{met_in, twin_in, users_in}
 use Rattle.rows.proofs.Digits.{bit_ext}
 use Rattle.workspace.specs.Workspace.{select, row_of}
 use Rattle.workspace.specs.Trials.{action_by, can_act}
-use Rattle.workspace.specs.Private.{left_at, right_at, note_at, Suited, Acting, Noted, Sides, Known, UsersBetween, AddedFrom, AddedAll, Like, itself, another, Marked, Judges, Tries, LastActs, TriesEach}
+use Rattle.workspace.specs.Private.{left_at, users_at, Suited, Acting, Known, Added, AddedAll, Like, itself, another, Marked, Judges, Tries, TriesEach}
+use Rattle.workspace.specs.declared.entry.Entry.{Entry}
 use Rattle.workspace.specs.declared.masks.Masks.{Masks}
 use Rattle.workspace.proofs.Select.{select-take}
 use Rattle.workspace.proofs.Columns.{row-take}
+use Rattle.workspace.proofs.Entries.{known_alike}
 use Rattle.workspace.proofs.Verdicts.{row_whole, select-all}
 
--- ── lists that begin with the same j actions ──
-module _ (l k : List Action) (j : ℕ) (alike : take j l ≡ take j k) where
-  select_alike : (x : ℕ) → x < 2 ^ j → select x l ≡ select x k
-  select_alike x h = sym (select-take j l x h) ∙ ap (select x) alike ∙ select-take j k x h
-
-  row_alike : (e : Bool) (φ : Term) (x : ℕ) → x < 2 ^ j → row_of e φ l x ≡ row_of e φ k x
-  row_alike e φ x h = row-take e φ l j x h ∙ ap (λ m. row_of e φ m x) alike ∙ sym (row-take e φ k j x h)
-
-  -- have the same sets in the table
-  known_alike : (φ : Term) (sets : List ℕ) → Known φ l sets (2 ^ j) → Known φ k sets (2 ^ j)
-  known_alike φ sets g x h =
-      let b = g x h in
-      let twin = twin_in (note_at sets x) in
-      record {
-        sides = subst (λ m. Sides φ m (left_at sets x) (right_at sets x) (users_in (note_at sets x))) (select_alike x h) b.sides;
-        noted = subst (λ m. Noted m (met_in (note_at sets x))) (select_alike x h) b.noted;
-        twin = subst (λ m. Perm m (select x k)) (select_alike twin (omega (arith, b.earlier))) (subst (Perm (select twin l)) (select_alike x h) b.twin);
-        earlier = b.earlier;
-        satisfied = b.satisfied ∙ row_alike false φ x h;
-        possible = b.possible ∙ row_alike true φ x h;
-      }
-
 -- ── one trial ──
-module _ (φ : Term) (l : List Action) (sets : List ℕ) where
+module _ (φ : Term) (l : List Action) (sets : List Entry) where
   -- the last set below 2^n has all of the first n actions
   pub whole_possible : (n : ℕ) → n ≤ length l → Known φ l sets (2 ^ n) → bit 0 (possible_in (left_at sets (2 ^ n - 1))) ≡ possible φ 0 (take n l)
   whole_possible n h g =
@@ -66,29 +45,22 @@ module _ (φ : Term) (l : List Action) (sets : List ℕ) where
   fewer n m h g x b = g x (omega arith)
 
   -- and its users are theirs
-  pub acted_by : (j : ℕ) → j ≤ length l → Known φ l sets (2 ^ j) → Acting (take j l) (users_in (note_at sets (2 ^ j - 1)))
+  pub acted_by : (j : ℕ) → j ≤ length l → Known φ l sets (2 ^ j) → Acting (take j l) (users_at sets (2 ^ j - 1))
   acted_by j h g =
       let below : 2 ^ j - 1 < 2 ^ j = omega (arith, pow_pos j) in
-      subst (λ m. Acting m (users_in (note_at sets (2 ^ j - 1))))
+      subst (λ m. Acting m (users_at sets (2 ^ j - 1)))
       (sym (select-take j l (2 ^ j - 1) below) ∙ subst (λ m. select (2 ^ m - 1) (take j l) ≡ take j l) (length-take-le j l h) (select-all (take j l)))
       (g (2 ^ j - 1) below).sides.acting
 
--- the action at the place behind the others is the tried one
-pub tried-user : (l : List Action) (j : ℕ) (a : Action) → j < length l → a.user < 16 → UsersBetween (set l j a) j (j + 1)
-tried-user l j a h b k from to =
-    let e : k ≡ j = omega arith in
-    subst (λ n. n < 16) (sym (ap (λ n. (get_or (set l j a) n (record { user = 0; met = 0 })).user) e ∙ ap (λ x. x.user) (get_or-set_same l j a (record { user = 0; met = 0 }) h))) b
-
-pub one-tried : (m : Masks) (ops : List ℕ) (l : List Action) (j : ℕ) (a : Action) (sets sets' : List ℕ) (r : Bool) → j < length l
-    → AddedFrom m ops (set l j a) j (j + 1) sets sets' → r ≡ bit 0 (possible_in (left_at sets' (2 ^ (j + 1) - 1))) → Tries m ops l j a sets sets' r
-one-tried m ops l j a sets sets' r h added is φ u g =
-    let k : List Action = set l j a in
-    let inside : j < length k = omega (arith, length-set l j a) in
-    let front : take j k ≡ take j l = take-set-le j l j a (omega arith) in
-    let all = added φ u (λ _. known_alike l k j (sym front) φ sets g) in
-    let n : take (j + 1) k ≡ take j l ++ (a ∷ []) = ap (λ n. take n k) (add-one j) ∙ take-suc-set l j a h in (
-      is ∙ whole_possible φ k sets' (j + 1) (omega arith) all ∙ ap (possible φ 0) n,
-      known_alike k l j front φ sets' (fewer φ k sets' (2 ^ j) (2 ^ (j + 1)) (pow_mono {i = j} {j = j + 1} (omega arith)) all),
+pub one-tried : (m : Masks) (ops : List ℕ) (l : List Action) (a : Action) (sets sets' : List Entry) (r : Bool)
+    → Added m ops l a sets sets' → r ≡ bit 0 (possible_in (left_at sets' (2 ^ (length l + 1) - 1))) → Tries m ops l a sets sets' r
+one-tried m ops l a sets sets' r added is φ u g =
+    let j = length l in
+    let more : List Action = l ++ (a ∷ []) in
+    let n : length more ≡ j + 1 = length-append l (a ∷ []) in
+    let all = added φ u g in (
+      is ∙ whole_possible φ more sets' (j + 1) (omega arith) all ∙ ap (possible φ 0) (ap (λ k. take k more) (sym n) ∙ take-length more),
+      known_alike more l j (take-append_seam l (a ∷ []) ∙ sym (take-length l)) φ sets' (fewer φ more sets' (2 ^ j) (2 ^ (j + 1)) (pow_mono {i = j} {j = j + 1} (omega arith)) all),
     )
 
 -- ── a user alike one who is tried ──
@@ -102,13 +74,13 @@ pub like_below : {met : List ℕ} {acted u r : ℕ} → u < length met → Like 
 like_below h itself = h
 like_below h (another a b e p q) = b
 
-module _ (m : Masks) (ops : List ℕ) (l : List Action) (j : ℕ) (met : List ℕ) (acted tried u : ℕ) (sets : List ℕ) (b : Bool) where
-  pub judges_alike : (v : ℕ) → Like met acted u v → (v ≡ u → ⊥) → b ≡ bit v tried → Judges m ops l j met acted tried u sets sets b
+module _ (m : Masks) (ops : List ℕ) (l : List Action) (met : List ℕ) (acted tried u : ℕ) (sets : List Entry) (b : Bool) where
+  pub judges_alike : (v : ℕ) → Like met acted u v → (v ≡ u → ⊥) → b ≡ bit v tried → Judges m ops l met acted tried u sets sets b
   judges_alike v itself n e φ s who first above = absurd (n refl)
-  judges_alike v (another h k same_Met p q) n e φ s who first above = (e ∙ above v h k ∙ as_another φ (take j l) met acted u v who same_Met p q, first)
+  judges_alike v (another h k same_Met p q) n e φ s who first above = (e ∙ above v h k ∙ as_another φ l met acted u v who same_Met p q, first)
 
-  pub judges_tried : (a : Action) (sets' : List ℕ) → a ≡ action_by met u → Tries m ops l j a sets sets' b → Judges m ops l j met acted tried u sets sets' b
-  judges_tried a sets' is t φ s who first above = let (e, after) = t φ s first in (e ∙ ap (λ x. possible φ 0 (take j l ++ (x ∷ []))) is, after)
+  pub judges_tried : (a : Action) (sets' : List Entry) → a ≡ action_by met u → Tries m ops l a sets sets' b → Judges m ops l met acted tried u sets sets' b
+  judges_tried a sets' is t φ s who first above = let (e, after) = t φ s first in (e ∙ ap (λ x. possible φ 0 (l ++ (x ∷ []))) is, after)
 
 -- ── the users tried so far ──
 -- those from u on
@@ -162,39 +134,51 @@ module _ (φ : Term) (l : List Action) (met : List ℕ) where
   unfolding can_act
   nobody e = sym (ap (λ n. number (map (λ v. possible φ 0 (l ++ (action_by met v ∷ []))) (range 0 n))) e)
 
--- where the loop over the users is, the table being as long as it was
-pub record Trying (m : Masks) (ops : List ℕ) (l : List Action) (j : ℕ) (met : List ℕ) (acted : ℕ) (before sets : List ℕ) (u tried : ℕ) : Type 0 where
+-- a list by its last element
+pub last_apart : (l : List Action) → 0 < length l → take (length l - 1) l ++ (get_or l (length l - 1) (record { user = 0; met = 0 }) ∷ []) ≡ l
+last_apart l h =
+    let n : length l - 1 + 1 ≡ length l = omega arith in
+    sym (take_more l (length l - 1) (record { user = 0; met = 0 }) (omega arith)) ∙ ap (λ k. take k l) n ∙ take-length l
+
+-- where the loop over the users is, the actions l before the last one and the table being as long as it was
+pub record Trying (m : Masks) (ops : List ℕ) (l : List Action) (a : Action) (met : List ℕ) (acted : ℕ) (before sets : List Entry) (u tried : ℕ) : Type 0 where
   pub bound : u < length met
   pub fits : tried < 2 ^ 16
   pub lengths : length sets ≡ length before
-  pub tries : (φ : Term) → Suited φ m ops → LastActs l (j + 1) met → Acting (take j l) acted × Known φ l sets (2 ^ j) × TriedFrom φ (take j l) met u tried
+  pub tries : (φ : Term) → Suited φ m ops → a ≡ action_by met (length met - 1) → Acting l acted × Known φ l sets (2 ^ length l) × TriedFrom φ l met u tried
 
-module _ (m : Masks) (ops : List ℕ) (l : List Action) (j : ℕ) (met : List ℕ) (acted : ℕ) (before : List ℕ) where
+module _ (m : Masks) (ops : List ℕ) (l : List Action) (a : Action) (met : List ℕ) (acted : ℕ) (before : List Entry) where
   -- the last user's trial stands in the table
-  pub try_begin : (u tried : ℕ) (b : Bool) → j < length l → u + 1 ≡ length met → acted ≡ users_in (note_at before (2 ^ j - 1)) → AddedAll m ops l (2 ^ (j + 1)) before
-      → b ≡ bit 0 (possible_in (left_at before (2 ^ (j + 1) - 1))) → tried < 2 ^ 16 → Marked 0 u b tried → Trying m ops l j met acted before before u tried
-  try_begin u tried b h e w g is f k = record {
+  pub try_begin : (u tried : ℕ) (b : Bool) → u + 1 ≡ length met → acted ≡ users_at before (2 ^ length l - 1) → AddedAll m ops (l ++ (a ∷ [])) (2 ^ (length l + 1)) before
+      → b ≡ bit 0 (possible_in (left_at before (2 ^ (length l + 1) - 1))) → tried < 2 ^ 16 → Marked 0 u b tried → Trying m ops l a met acted before before u tried
+  try_begin u tried b e w g is f k = record {
     bound = omega arith;
     fits = f;
     lengths = refl;
     tries = λ φ s last.
-        let first = fewer φ l before (2 ^ j) (2 ^ (j + 1)) (pow_mono {i = j} {j = j + 1} (omega arith)) (g φ s) in (
-          subst (Acting (take j l)) (sym w) (acted_by φ l before j (omega arith) first),
+        let more : List Action = l ++ (a ∷ []) in
+        let j = length l in
+        let n : length more ≡ j + 1 = length-append l (a ∷ []) in
+        let q : length met - 1 ≡ u = omega arith in
+        let first = known_alike more l j (take-append_seam l (a ∷ []) ∙ sym (take-length l)) φ before
+        (fewer φ more before (2 ^ j) (2 ^ (j + 1)) (pow_mono {i = j} {j = j + 1} (omega arith)) (g φ s)) in (
+          subst (λ k. Acting k acted) (take-length l) (subst (Acting (take j l)) (sym w) (acted_by φ l before j (omega arith) first)),
           first,
-          tried-more φ (take j l) met u 0 tried b (omega arith) (subst (λ n. TriedFrom φ (take j l) met n 0) (sym e) (tried-none φ (take j l) met)) k
-              (is ∙ whole_possible φ l before (j + 1) (omega arith) (g φ s) ∙ ap (possible φ 0) (whole (last (omega arith)).1)),
+          tried-more φ l met u 0 tried b (omega arith) (subst (λ n. TriedFrom φ l met n 0) (sym e) (tried-none φ l met)) k
+              (is ∙ whole_possible φ more before (j + 1) (omega arith) (g φ s) ∙ ap (possible φ 0) (ap (λ k. take k more) (sym n) ∙ take-length more)
+              ∙ ap (λ x. possible φ 0 (l ++ (x ∷ []))) (last ∙ ap (action_by met) q)),
         );
   }
-    where
-      whole : get_or l (j + 1 - 1) (record { user = 0; met = 0 }) ≡ action_by met (length met - 1) → take (j + 1) l ≡ take j l ++ (action_by met u ∷ [])
-      whole a =
-          let p : j + 1 - 1 ≡ j = omega arith in
-          let q : length met - 1 ≡ u = omega arith in
-          ap (λ n. take n l) (add-one j) ∙ take-suc l j (record { user = 0; met = 0 }) h
-          ∙ ap (λ x. take j l ++ (x ∷ [])) (ap (λ n. get_or l n (record { user = 0; met = 0 })) (sym p) ∙ a ∙ ap (action_by met) q)
 
-  pub try_turn : (sets sets' : List ℕ) (u tried tried' : ℕ) (b : Bool) → 0 < u → Trying m ops l j met acted before sets u tried → length sets' ≡ length sets
-      → Judges m ops l j met acted tried (u - 1) sets sets' b → tried' < 2 ^ 16 → Marked tried (u - 1) b tried' → Trying m ops l j met acted before sets' (u - 1) tried'
+  -- the actions before the last one being k
+  pub try_begin_at : (k u tried : ℕ) (b : Bool) → length l ≡ k → u + 1 ≡ length met → acted ≡ users_at before (2 ^ k - 1) → AddedAll m ops (l ++ (a ∷ [])) (2 ^ (k + 1)) before
+      → b ≡ bit 0 (possible_in (left_at before (2 ^ (k + 1) - 1))) → tried < 2 ^ 16 → Marked 0 u b tried → Trying m ops l a met acted before before u tried
+  try_begin_at k u tried b n e =
+      subst (λ i. acted ≡ users_at before (2 ^ i - 1) → AddedAll m ops (l ++ (a ∷ [])) (2 ^ (i + 1)) before
+      → b ≡ bit 0 (possible_in (left_at before (2 ^ (i + 1) - 1))) → tried < 2 ^ 16 → Marked 0 u b tried → Trying m ops l a met acted before before u tried) n (try_begin u tried b e)
+
+  pub try_turn : (sets sets' : List Entry) (u tried tried' : ℕ) (b : Bool) → 0 < u → Trying m ops l a met acted before sets u tried → length sets' ≡ length sets
+      → Judges m ops l met acted tried (u - 1) sets sets' b → tried' < 2 ^ 16 → Marked tried (u - 1) b tried' → Trying m ops l a met acted before sets' (u - 1) tried'
   try_turn sets sets' u tried tried' b h t e judges f k = let bound = t.bound in record {
     bound = omega arith;
     fits = f;
@@ -203,22 +187,20 @@ module _ (m : Masks) (ops : List ℕ) (l : List Action) (j : ℕ) (met : List �
         let (who, first, so_far) = t.tries φ s last in
         let (is, after) = judges φ s who first (λ v p q. so_far.here v (omega arith) q) in
         let n : u ≡ u - 1 + 1 = omega arith in
-        (who, after, tried-more φ (take j l) met (u - 1) tried tried' b (omega arith) (subst (λ x. TriedFrom φ (take j l) met x tried) n so_far) k is);
+        (who, after, tried-more φ l met (u - 1) tried tried' b (omega arith) (subst (λ x. TriedFrom φ l met x tried) n so_far) k is);
   }
 
-  pub try_end : (sets : List ℕ) (u tried n : ℕ) → j + 1 ≡ n → u ≤ 0 → length met ≤ 16 → Trying m ops l j met acted before sets u tried → TriesEach m ops l n met tried
-  try_end sets u tried n e z few t φ s last =
-      let d : j ≡ n - 1 = omega arith in
+  pub try_end : (sets : List Entry) (u tried : ℕ) → u ≤ 0 → length met ≤ 16 → Trying m ops l a met acted before sets u tried → (φ : Term) → Suited φ m ops → a ≡ action_by met (length met - 1)
+      → tried ≡ can_act φ l met
+  try_end sets u tried z few t φ s last =
       let first : u ≡ 0 = omega arith in
-      all-tried φ (take (n - 1) l) met tried few t.fits
-      (subst (λ x. TriedFrom φ (take (n - 1) l) met x tried) first
-      (subst (λ k. TriedFrom φ (take k l) met u tried) d (t.tries φ s (subst (λ k. LastActs l k met) (sym e) last)).2))
+      all-tried φ l met tried few t.fits (subst (λ x. TriedFrom φ l met x tried) first (t.tries φ s last).2)
 
-pub try_nobody : (m : Masks) (ops : List ℕ) (l : List Action) (n : ℕ) (met : List ℕ) → length met ≡ 0 → TriesEach m ops l n met 0
-try_nobody m ops l n met e φ s last = nobody φ (take (n - 1) l) met e
+pub try_nobody : (m : Masks) (ops : List ℕ) (l : List Action) (met : List ℕ) → length met ≡ 0 → TriesEach m ops l met 0
+try_nobody m ops l met e φ s last = nobody φ (take (length l - 1) l) met e
 
-pub try_no_action : (m : Masks) (ops : List ℕ) (l : List Action) (n : ℕ) (met : List ℕ) → n ≡ 0 → TriesEach m ops l n met 0
-try_no_action m ops l n met e φ s last = nobody φ (take (n - 1) l) met (by (lt_or_le 0 (length met)))
+pub try_no_action : (m : Masks) (ops : List ℕ) (l : List Action) (met : List ℕ) → length l ≡ 0 → TriesEach m ops l met 0
+try_no_action m ops l met e φ s last = nobody φ (take (length l - 1) l) met (by (lt_or_le 0 (length met)))
   where
     by : (0 < length met) ⊎ (length met ≤ 0) → length met ≡ 0
     by (inl k) = absurd (omega (arith, (last k).0))

@@ -5,18 +5,17 @@ use mathlib.Core.Path.{◌≡◌, refl, sym, ◌∙◌, ap, ap₂, subst}
 use mathlib.Core.Bool.{Bool, true, false, So, ◌&&◌, ◌||◌, cond, true≢false, and-true, or-true, or_assoc, and-or_distrib_right}
 use mathlib.Core.List.{List}
 use mathlib.Core.Logic.{◌⊎◌, inl, inr, ⊎_elim}
-use Prim.Native.Nat.{ℕ, zero, suc, ◌+◌, ◌-◌, ◌*◌, ◌^◌, ◌≤◌, ◌<◌}
+use Prim.Native.Nat.{ℕ, zero, suc, ◌+◌, ◌-◌, ◌^◌, ◌≤◌, ◌<◌}
 use native.Mathlib.Omega.{arith}
 use lib.Bits.{bit_and, bit_or, and_self, and_comm, and_zero_l}
 use lib.Dec.{eqb}
-use lib.ListN.{get_or}
 use lib.Pow.{pow_pos}
 use Rattle.soda.specs.Bits.{bit}
 use Rattle.soda.proofs.Bools.{and_split, and-join, or_split, or_left, or_right, Order, less, same, more, order, lt_or_le}
 use Rattle.soda.proofs.Bits.{bit_of_zero}
-use Rattle.rows.specs.Notes.{users_in}
 use Rattle.rows.proofs.Digits.{bit-and, bit-or}
-use Rattle.workspace.specs.Private.{left_at, right_at, note_at, Part, PartAt, Parted, Gathered, Joined, Next, matched, allowed, matched_apart}
+use Rattle.workspace.specs.Private.{digits, entry_at, Part, Joined, JoinedBy, Adds, Gathers, Next, sided, allowed, sided_apart}
+use Rattle.workspace.specs.declared.entry.Entry.{Entry}
 use Rattle.workspace.proofs.Submask.{Within, Lowest, lowest, within_le, and-within, rest-within, walk, within_more, within-less}
 
 -- ── the parts of s by those of t ──
@@ -42,11 +41,11 @@ module _ (f : ℕ → ℕ → Bool) (s t : ℕ) (n : Next s t) where
       rest = record { some = omega (arith, p.less); less = omega (arith, p.some, p.less); within = rest-within a s p.within }
 
   -- so the parts of t and their rests are all there are
-  all_parts : (r : ℕ) → ((q : ℕ) → So (bit q r) → (x : ℕ) × Part x s × So (f x q))
-      → ((q x : ℕ) → 0 < x → Within x t → So (f x q || f (s - x) q) → So (bit q r)) → Joined f s r
-  all_parts r found each = record { found = found; each = λ q x p e. go q x p e (lt_or_le x (2 ^ n.last)) }
+  all_parts : (has : ℕ → Bool) → ((q : ℕ) → So (has q) → (x : ℕ) × Part x s × So (f x q))
+      → ((q x : ℕ) → 0 < x → Within x t → So (f x q || f (s - x) q) → So (has q)) → JoinedBy f s has
+  all_parts has found each = record { found = found; each = λ q x p e. go q x p e (lt_or_le x (2 ^ n.last)) }
     where
-      go : (q x : ℕ) → Part x s → So (f x q) → (x < 2 ^ n.last) ⊎ (2 ^ n.last ≤ x) → So (bit q r)
+      go : (q x : ℕ) → Part x s → So (f x q) → (x < 2 ^ n.last) ⊎ (2 ^ n.last ≤ x) → So (has q)
       go q x p e (inl l) =
           each q x p.some (within-less n.last t n.below x l (subst (Within x) n.is p.within)) (or_left (f x q) (f (s - x) q) e)
       go q x p e (inr l) =
@@ -58,7 +57,7 @@ module _ (f : ℕ → ℕ → Bool) (s t : ℕ) (n : Next s t) where
 
   -- one action has no part
   pub joined_one : t ≡ 0 → Joined f s 0
-  joined_one z = all_parts 0 (λ q e. absurd (true≢false (sym e ∙ bit_of_zero q))) (λ q x h w e. absurd (omega (arith, within_le x t w)))
+  joined_one z = all_parts (digits 0) (λ q e. absurd (true≢false (sym e ∙ bit_of_zero q))) (λ q x h w e. absurd (omega (arith, within_le x t w)))
 
 -- s without its last action, and without its first
 pub last_part : {s t : ℕ} → Next s t → Within t s × (t < s)
@@ -68,17 +67,17 @@ pub first_part : (s : ℕ) → 0 < s → Within (bit_and s (s - 1)) s × (bit_an
 first_part s h = let l = lowest s h in (l.plain (bit_and s (s - 1)) (and_self (bit_and s (s - 1))), l.less)
 
 -- ── the walk ──
--- what is gathered in r: t's lowest action alone, and the parts of the others above a, with and without it
-pub record At (f : ℕ → ℕ → Bool) (s t high a r : ℕ) : Type 0 where
+-- what is gathered: t's lowest action alone, and the parts of the others above a, with and without it
+pub record At (f : ℕ → ℕ → Bool) (s t high a : ℕ) (has : ℕ → Bool) : Type 0 where
   pub within : Within a high
-  pub found : (q : ℕ) → So (bit q r) → (x : ℕ) × Part x s × So (f x q)
-  pub alone : (q : ℕ) → So (f (t - high) q || f (s - (t - high)) q) → So (bit q r)
-  pub plain : (q x : ℕ) → a < x → Within x high → So (f x q || f (s - x) q) → So (bit q r)
-  pub more : (q x : ℕ) → a < x → Within x high → So (f (x + (t - high)) q || f (s - (x + (t - high))) q) → So (bit q r)
+  pub found : (q : ℕ) → So (has q) → (x : ℕ) × Part x s × So (f x q)
+  pub alone : (q : ℕ) → So (f (t - high) q || f (s - (t - high)) q) → So (has q)
+  pub plain : (q x : ℕ) → a < x → Within x high → So (f x q || f (s - x) q) → So (has q)
+  pub more : (q x : ℕ) → a < x → Within x high → So (f (x + (t - high)) q || f (s - (x + (t - high))) q) → So (has q)
 
 module _ (f : ℕ → ℕ → Bool) (s t high : ℕ) (n : Next s t) (l : Lowest t high) where
-  pub begin : (r : ℕ) → Parted f s (t - high) r → At f s t high high r
-  begin r e = record {
+  pub begin : (has : ℕ → Bool) → ((q : ℕ) → has q ≡ (f (t - high) q || f (s - (t - high)) q)) → At f s t high high has
+  begin has e = record {
     within = and_self high;
     found = λ q b. of_part f s t n (t - high) (omega (arith, l.less)) first q (sym (e q) ∙ b);
     alone = λ q b. e q ∙ b;
@@ -89,20 +88,16 @@ module _ (f : ℕ → ℕ → Bool) (s t high : ℕ) (n : Next s t) (l : Lowest 
       first : Within (t - high) t
       first = let z : 0 + (t - high) ≡ t - high = omega arith in subst (λ x. Within x t) z (l.more 0 (and_zero_l high))
 
-  -- so a turn's parts are no larger than s
-  pub inside : (a r : ℕ) → At f s t high a r → (a ≤ high) × (high < t) × (t ≤ s)
-  inside a r g = (within_le a high g.within, l.less, omega (arith, n.is))
-
   -- a turn's two parts
   abbrev turned : ℕ → ℕ → Bool
   turned a q = (f a q || f (s - a) q) || (f (a + (t - high)) q || f (s - (a + (t - high))) q)
 
-  pub next : (a r r' : ℕ) → 0 < a → At f s t high a r → ((q : ℕ) → bit q r' ≡ (bit q r || turned a q)) → At f s t high (bit_and (a - 1) high) r'
-  next a r r' h g digits = record {
+  pub next : (a : ℕ) (has has' : ℕ → Bool) → 0 < a → At f s t high a has → ((q : ℕ) → has' q ≡ (has q || turned a q)) → At f s t high (bit_and (a - 1) high) has'
+  next a has has' h g digits = record {
     within = and-within (a - 1) high;
     found = λ q b. ⊎_elim (g.found q) (λ b'. ⊎_elim (of_part f s t n a h (l.plain a g.within) q)
         (of_part f s t n (a + (t - high)) (omega arith) (l.more a g.within) q) (or_split (f a q || f (s - a) q) (f (a + (t - high)) q || f (s - (a + (t - high))) q) b'))
-        (or_split (bit q r) (turned a q) (sym (digits q) ∙ b));
+        (or_split (has q) (turned a q) (sym (digits q) ∙ b));
     alone = λ q b. old q (g.alone q b);
     plain = λ q x b w c. ⊎_elim (λ k. old q (g.plain q x k w c))
         (λ k. new q (or_left (f a q || f (s - a) q) _ (subst (λ y. So (f y q || f (s - y) q)) (sym k) c))) (past x b w (order a x));
@@ -110,21 +105,21 @@ module _ (f : ℕ → ℕ → Bool) (s t high : ℕ) (n : Next s t) (l : Lowest 
         (λ k. new q (or_right (f a q || f (s - a) q) _ (subst (λ y. So (f (y + (t - high)) q || f (s - (y + (t - high))) q)) (sym k) c))) (past x b w (order a x));
   }
     where
-      old : (q : ℕ) → So (bit q r) → So (bit q r')
-      old q b = digits q ∙ or_left (bit q r) (turned a q) b
+      old : (q : ℕ) → So (has q) → So (has' q)
+      old q b = digits q ∙ or_left (has q) (turned a q) b
 
-      new : (q : ℕ) → So (turned a q) → So (bit q r')
-      new q b = digits q ∙ or_right (bit q r) (turned a q) b
+      new : (q : ℕ) → So (turned a q) → So (has' q)
+      new q b = digits q ∙ or_right (has q) (turned a q) b
 
       past : (x : ℕ) → bit_and (a - 1) high < x → Within x high → Order a x → (a < x) ⊎ (a ≡ x)
       past x b w (less k) = inl k
       past x b w (same k) = inr k
       past x b w (more k) = absurd (omega (arith, walk a high x g.within w k))
 
-  pub done : (a r : ℕ) → a ≤ 0 → At f s t high a r → Joined f s r
-  done a r h g = all_parts f s t n r g.found (λ q x k w c. go q x k c (l.split x w))
+  pub done : (a : ℕ) (has : ℕ → Bool) → a ≤ 0 → At f s t high a has → JoinedBy f s has
+  done a has h g = all_parts f s t n has g.found (λ q x k w c. go q x k c (l.split x w))
     where
-      go : (q x : ℕ) → 0 < x → So (f x q || f (s - x) q) → (y : ℕ) × Within y high × ((x ≡ y) ⊎ (x ≡ y + (t - high))) → So (bit q r)
+      go : (q x : ℕ) → 0 < x → So (f x q || f (s - x) q) → (y : ℕ) × Within y high × ((x ≡ y) ⊎ (x ≡ y + (t - high))) → So (has q)
       go q x k c (y, w, inl e) = g.plain q x (omega arith) (subst (λ z. Within z high) (sym e) w) c
       go q x k c (zero, w, inr e) = g.alone q (subst (λ z. So (f z q || f (s - z) q)) (let z : x ≡ t - high = omega arith in z) c)
       go q x k c (suc y, w, inr e) = g.more q (suc y) (omega arith) w (subst (λ z. So (f z q || f (s - z) q)) e c)
@@ -132,67 +127,66 @@ module _ (f : ℕ → ℕ → Bool) (s t high : ℕ) (n : Next s t) (l : Lowest 
 pub next_le : {s t : ℕ} → Next s t → t ≤ s
 next_le n = omega (arith, n.is)
 
--- ── a turn's digits ──
--- from a pair
-pub gathered_twice : (f : ℕ → ℕ → Bool) (s x y a b a₁ b₁ a₂ b₂ : ℕ) → Gathered f s x a b a₁ b₁ → Gathered f s y a₁ b₁ a₂ b₂
-    → (q : ℕ) → bit q (bit_or a₂ b₂) ≡ (bit q (bit_or a b) || ((f x q || f (s - x) q) || (f y q || f (s - y) q)))
-gathered_twice f s x y a b a₁ b₁ a₂ b₂ g h q =
-    bit-or q a₂ b₂ ∙ h q ∙ ap (λ c. c || (f y q || f (s - y) q)) (g q ∙ ap (λ c. c || (f x q || f (s - x) q)) (sym (bit-or q a b)))
-    ∙ or_assoc (bit q (bit_or a b)) (f x q || f (s - x) q) (f y q || f (s - y) q)
-
--- and from two parts
-pub parted_twice : (f : ℕ → ℕ → Bool) (s x y r p p' : ℕ) → Parted f s x p → Parted f s y p'
-    → (q : ℕ) → bit q (bit_or r (bit_or p p')) ≡ (bit q r || ((f x q || f (s - x) q) || (f y q || f (s - y) q)))
-parted_twice f s x y r p p' e e' q = bit-or q r (bit_or p p') ∙ ap (λ c. bit q r || c) (bit-or q p p' ∙ ap₂ ◌||◌ (e q) (e' q))
-
--- ── a part and its rest ──
--- the users of the set x
-abbrev users_at : List ℕ → ℕ → ℕ
-users_at sets x = users_in (note_at sets x)
-
+-- ── two sets ──
 regroup : (a b c d : Bool) → ((a || c) || (b || d)) ≡ ((a || b) || (c || d))
 regroup true b c d = refl
 regroup false true c d = or-true c
 regroup false false c d = refl
 
-module _ (sets : List ℕ) (whole a s x : ℕ) (at : PartAt whole a s x) (h : a ≤ whole) where
-  back : s - (s - x) ≡ x
-  back = omega (arith, at.is_whole, at.is_part)
+pub adds-pair : (one two : Entry) (ahead back : ℕ)
+    → Adds sided one two (λ q. bit q ahead || bit q back)
+    (λ q. bit q (bit_or ahead (bit_and one.row.left two.row.right)) || bit q (bit_or back (bit_and two.row.left one.row.right)))
+adds-pair one two ahead back = record {
+  each = λ q.
+      ap₂ ◌||◌ (bit-or q ahead _ ∙ ap (λ b. bit q ahead || b) (bit-and q _ _)) (bit-or q back _ ∙ ap (λ b. bit q back || b) (bit-and q _ _))
+      ∙ regroup (bit q ahead) (bit q back) (sided one two q) (sided two one q);
+}
 
-  -- where the rest has its numbers
-  rest : whole - a ≡ 3 * (s - x)
-  rest = omega (arith, at.is_whole, at.is_part)
+-- where users are compared
+pub adds-apart : (one two : Entry) (anyone found r : ℕ)
+    → r ≡ cond (eqb (bit_and one.users two.users) 0) (bit_or (bit_and one.row.left two.row.right) (bit_and two.row.left one.row.right))
+    (bit_and (bit_or (bit_and one.row.left two.row.right) (bit_and two.row.left one.row.right)) anyone)
+    → Adds (sided_apart anyone) one two (digits found) (digits (bit_or found r))
+adds-apart one two anyone found r e = record {
+  each = λ q.
+      bit-or q found r
+      ∙ ap (λ b. bit q found || b)
+      (ap (bit q) e ∙ chosen q (eqb (bit_and one.users two.users) 0) ∙ ap (λ b. b && allowed anyone one two q) (words-at q)
+      ∙ and-or_distrib_right (sided one two q) (sided two one q) (allowed anyone one two q)
+      ∙ ap (λ n. sided one two q && allowed anyone one two q || sided two one q && (eqb n 0 || bit q anyone)) (and_comm one.users two.users));
+}
+  where
+    words-at : (q : ℕ) → bit q (bit_or (bit_and one.row.left two.row.right) (bit_and two.row.left one.row.right)) ≡ (sided one two q || sided two one q)
+    words-at q = simp (bit-or, bit-and)
 
-  pub found_digits : (one two : ℕ)
-      → Gathered (matched sets s) s x one two (bit_or one (bit_and (get_or sets a 0) (get_or sets (whole - a + 1) 0))) (bit_or two (bit_and (get_or sets (whole - a) 0) (get_or sets (a + 1) 0)))
-  found_digits one two q =
-      rw (rest, at.is_part, back)
-      (ap₂ ◌||◌ (bit-or q one _ ∙ ap (λ b. bit q one || b) (bit-and q _ _)) (bit-or q two _ ∙ ap (λ b. bit q two || b) (bit-and q _ _))
-      ∙ regroup (bit q one) (bit q two) (bit q (left_at sets x) && bit q (right_at sets (s - x))) (bit q (left_at sets (s - x)) && bit q (right_at sets x)))
+    chosen : (q : ℕ) (c : Bool) → bit q (cond c (bit_or (bit_and one.row.left two.row.right) (bit_and two.row.left one.row.right))
+        (bit_and (bit_or (bit_and one.row.left two.row.right) (bit_and two.row.left one.row.right)) anyone))
+        ≡ (bit q (bit_or (bit_and one.row.left two.row.right) (bit_and two.row.left one.row.right)) && (c || bit q anyone))
+    chosen q true = sym (and-true (bit q (bit_or (bit_and one.row.left two.row.right) (bit_and two.row.left one.row.right))))
+    chosen q false = bit-and q (bit_or (bit_and one.row.left two.row.right) (bit_and two.row.left one.row.right)) anyone
 
-  -- where users are compared
-  pub kept_parted : (anyone y r : ℕ) → Parted (matched sets s) s x y
-      → r ≡ cond (eqb (bit_and (users_in (get_or sets (a + 2) 0)) (users_in (get_or sets (whole - a + 2) 0))) 0) y (bit_and y anyone) → Parted (matched_apart sets anyone s) s x r
-  kept_parted anyone y r p e q =
-      ap (bit q) (e ∙ placed) ∙ chosen (eqb (bit_and (users_at sets x) (users_at sets (s - x))) 0) ∙ ap (λ b. b && allowed sets anyone s x q) (p q)
-      ∙ and-or_distrib_right (matched sets s x q) (matched sets s (s - x) q) (allowed sets anyone s x q)
-      ∙ ap (λ n. matched sets s x q && allowed sets anyone s x q || matched sets s (s - x) q && (eqb n 0 || bit q anyone)) turned-users
-    where
-      placed : cond (eqb (bit_and (users_in (get_or sets (a + 2) 0)) (users_in (get_or sets (whole - a + 2) 0))) 0) y (bit_and y anyone)
-          ≡ cond (eqb (bit_and (users_at sets x) (users_at sets (s - x))) 0) y (bit_and y anyone)
-      placed = rw (rest, at.is_part)
+-- ── what the calls gather ──
+module _ {A : Type 0} {post : A → Entry → Entry → A → Type 0} {has : A → ℕ → Bool} {f : Entry → Entry → ℕ → Bool} (g : Gathers post has f) (sets : List Entry) (s : ℕ) where
+  -- of the part x of s and the rest
+  abbrev at : ℕ → ℕ → Bool
+  at x q = f (entry_at sets x) (entry_at sets (s - x)) q
 
-      chosen : (c : Bool) → bit q (cond c y (bit_and y anyone)) ≡ (bit q y && (c || bit q anyone))
-      chosen true = sym (and-true (bit q y))
-      chosen false = bit-and q y anyone
+  one-of : (x : ℕ) → x ≤ s → (one two : Entry) → one ≡ entry_at sets x → two ≡ entry_at sets (s - x) → (q : ℕ) → (f one two q || f two one q) ≡ (at x q || at (s - x) q)
+  one-of x h one two e d q =
+      let back : x ≡ s - (s - x) = omega arith in
+      ap₂ (λ i j. f i j q || f j i q) e d ∙ ap (λ k. at x q || f (entry_at sets (s - x)) (entry_at sets k) q) back
 
-      turned-users : bit_and (users_at sets x) (users_at sets (s - x)) ≡ bit_and (users_at sets (s - x)) (users_at sets (s - (s - x)))
-      turned-users = and_comm (users_at sets x) (users_at sets (s - x)) ∙ rw back
+  pub gathered : (none r : A) (x : ℕ) → x ≤ s → (one two : Entry) → one ≡ entry_at sets x → two ≡ entry_at sets (s - x)
+      → ((q : ℕ) → has none q ≡ false) → post none one two r → (q : ℕ) → has r q ≡ (at x q || at (s - x) q)
+  gathered none r x h one two e d z p q = (g.adds none r one two p).each q ∙ ap (λ b. b || (f one two q || f two one q)) (z q) ∙ one-of x h one two e d q
 
--- what is gathered from nothing is the part's own
-pub from_nothing : (f : ℕ → ℕ → Bool) (s x one two : ℕ) → Gathered f s x 0 0 one two → Parted f s x (bit_or one two)
-from_nothing f s x one two g q =
-    bit-or q one two ∙ g q ∙ ap₂ (λ a b. (a || b) || (f x q || f (s - x) q)) (bit_of_zero q) (bit_of_zero q)
+  -- of two parts
+  pub gathered_twice : (a b c : A) (x y : ℕ) → x ≤ s → y ≤ s → (one two three four : Entry)
+      → one ≡ entry_at sets x → two ≡ entry_at sets (s - x) → three ≡ entry_at sets y → four ≡ entry_at sets (s - y)
+      → post a one two b → post b three four c → (q : ℕ) → has c q ≡ (has a q || ((at x q || at (s - x) q) || (at y q || at (s - y) q)))
+  gathered_twice a b c x y h k one two three four e₁ e₂ e₃ e₄ p p' q =
+      (g.adds b c three four p').each q ∙ ap₂ ◌||◌ ((g.adds a b one two p).each q ∙ ap (λ u. has a q || u) (one-of x h one two e₁ e₂ q)) (one-of y k three four e₃ e₄ q)
+      ∙ or_assoc (has a q) (at x q || at (s - x) q) (at y q || at (s - y) q)
 
 -- ── what is asked for at the words of a mask only ──
 module _ (f : ℕ → ℕ → Bool) (s w : ℕ) where

@@ -11,12 +11,13 @@ use Rattle.policy.specs.Words.{decode, term_of}
 use Rattle.shape.specs.Shapes.{is_op, right_sides, term_shape}
 use Rattle.shape.specs.declared.Shape.{Shape}
 use Rattle.rows.specs.Rows.{place, Packed, satisfied_in, possible_in}
-use Rattle.rows.specs.Notes.{met_in, twin_in, users_in}
 use Rattle.workspace.specs.Workspace.{select, judged, row_of, is_filled, fill_of}
 use Rattle.workspace.specs.Trials.{action_by, can_act}
 use Rattle.soda.specs.declared.Action.{Action}
 use Rattle.workspace.specs.declared.masks.Masks.{Masks}
-use Rattle.workspace.specs.declared.tables.Stored.{Stored}
+use Rattle.workspace.specs.declared.parts.Found.{Found}
+use Rattle.workspace.specs.declared.entry.Entry.{Entry}
+use Rattle.workspace.specs.declared.entry.Stored.{Stored}
 
 -- ── packed rows ──
 -- r is one column of a row
@@ -34,15 +35,18 @@ pub record Masked (p : Shape) (m : Masks) : Type 0 where
   pub anyone : Packed p.together p.together m.anyone
 
 -- ── the table of sets ──
--- the set x has three numbers: its turned row, its row's digits at the words' right sides, and its note
-abbrev pub left_at : List ℕ → ℕ → ℕ
-left_at sets x = get_or sets (3 * x) 0
+-- the set x: its turned row, its row's digits at the words' right sides, and its users
+abbrev pub entry_at : List Entry → ℕ → Entry
+entry_at sets x = get_or sets x (record { row = record { left = 0; right = 0 }; met = 0; users = 0; twin = 0 })
 
-abbrev pub right_at : List ℕ → ℕ → ℕ
-right_at sets x = get_or sets (3 * x + 1) 0
+abbrev pub left_at : List Entry → ℕ → ℕ
+left_at sets x = (entry_at sets x).row.left
 
-abbrev pub note_at : List ℕ → ℕ → ℕ
-note_at sets x = get_or sets (3 * x + 2) 0
+abbrev pub right_at : List Entry → ℕ → ℕ
+right_at sets x = (entry_at sets x).row.right
+
+abbrev pub users_at : List Entry → ℕ → ℕ
+users_at sets x = (entry_at sets x).users
 
 -- ── the parts of a set ──
 -- x is a part of s, neither empty nor s
@@ -51,23 +55,21 @@ pub record Part (x s : ℕ) : Type 0 where
   pub less : x < s
   pub within : bit_and x s ≡ x
 
--- digit q of r says whether f holds at q of the part x of s or of the rest
-abbrev pub Parted : (ℕ → ℕ → Bool) → ℕ → ℕ → ℕ → Type 0
-Parted f s x r = (q : ℕ) → bit q r ≡ (f x q || f (s - x) q)
+-- the digits of a number, and those of a pair
+abbrev pub digits : ℕ → ℕ → Bool
+digits r q = bit q r
 
--- where the part x of s, and s, have their numbers in the table
-pub record PartAt (whole a s x : ℕ) : Type 0 where
-  pub is_whole : whole ≡ 3 * s
-  pub is_part : a ≡ 3 * x
+abbrev pub found_in : Found → ℕ → Bool
+found_in r q = bit q r.ahead || bit q r.back
 
--- the digits of the pair `ahead`, `back` with those of the part x of s and of the rest
-abbrev pub Gathered : (ℕ → ℕ → Bool) → ℕ → ℕ → ℕ → ℕ → ℕ → ℕ → Type 0
-Gathered f s x ahead back ahead' back' = (q : ℕ) → (bit q ahead' || bit q back') ≡ ((bit q ahead || bit q back) || (f x q || f (s - x) q))
+-- the digits at which f holds of some part that is neither empty nor s
+pub record JoinedBy (f : ℕ → ℕ → Bool) (s : ℕ) (has : ℕ → Bool) : Type 0 where
+  pub found : (q : ℕ) → So (has q) → (x : ℕ) × Part x s × So (f x q)
+  pub each : (q x : ℕ) → Part x s → So (f x q) → So (has q)
 
--- digit q of r says whether f holds at q of some part that is neither empty nor s
-pub record Joined (f : ℕ → ℕ → Bool) (s r : ℕ) : Type 0 where
-  pub found : (q : ℕ) → So (bit q r) → (x : ℕ) × Part x s × So (f x q)
-  pub each : (q x : ℕ) → Part x s → So (f x q) → So (bit q r)
+-- they are those of r
+abbrev pub Joined : (ℕ → ℕ → Bool) → ℕ → ℕ → Type 0
+Joined f s r = JoinedBy f s (digits r)
 
 -- s is t with one action more, behind all of t's
 pub record Next (s t : ℕ) : Type 0 where
@@ -75,20 +77,35 @@ pub record Next (s t : ℕ) : Type 0 where
   pub is : s ≡ 2 ^ last + t
   pub below : t < 2 ^ last
 
--- the part x at a word's left side, and the rest of s at its right side
-abbrev pub matched : List ℕ → ℕ → ℕ → ℕ → Bool
-matched sets s x q = bit q (left_at sets x) && bit q (right_at sets (s - x))
+-- one set at a word's left side, and another at its right side
+abbrev pub sided : Entry → Entry → ℕ → Bool
+sided one two q = bit q one.row.left && bit q two.row.right
 
--- no user acts in both parts, or the word is one of those where that does not matter
-abbrev pub allowed : List ℕ → ℕ → ℕ → ℕ → ℕ → Bool
-allowed sets anyone s x q = eqb (bit_and (users_in (note_at sets x)) (users_in (note_at sets (s - x)))) 0 || bit q anyone
+-- no user acts in both, or the word is one of those where that does not matter
+abbrev pub allowed : ℕ → Entry → Entry → ℕ → Bool
+allowed anyone one two q = eqb (bit_and one.users two.users) 0 || bit q anyone
 
 -- both
-abbrev pub matched_apart : List ℕ → ℕ → ℕ → ℕ → ℕ → Bool
-matched_apart sets anyone s x q = matched sets s x q && allowed sets anyone s x q
+abbrev pub sided_apart : ℕ → Entry → Entry → ℕ → Bool
+sided_apart anyone one two q = sided one two q && allowed anyone one two q
+
+-- the digits of two sets, either way, come to those that there are
+pub record Adds (f : Entry → Entry → ℕ → Bool) (one two : Entry) (has has' : ℕ → Bool) : Type 0 where
+  pub each : (q : ℕ) → has' q ≡ (has q || (f one two q || f two one q))
+
+-- so it is by each call
+pub record Gathers {A : Type 0} (post : A → Entry → Entry → A → Type 0) (has : A → ℕ → Bool) (f : Entry → Entry → ℕ → Bool) : Type 0 where
+  pub adds : (a r : A) (one two : Entry) → post a one two r → Adds f one two (has a) (has r)
+
+-- the part x of s, and the rest
+abbrev pub matched : List Entry → ℕ → ℕ → ℕ → Bool
+matched sets s x q = sided (entry_at sets x) (entry_at sets (s - x)) q
+
+abbrev pub matched_apart : List Entry → ℕ → ℕ → ℕ → ℕ → Bool
+matched_apart sets anyone s x q = sided_apart anyone (entry_at sets x) (entry_at sets (s - x)) q
 
 -- both, at the words of `joint`
-abbrev pub jointly : ℕ → ℕ → List ℕ → ℕ → ℕ → ℕ → Bool
+abbrev pub jointly : ℕ → ℕ → List Entry → ℕ → ℕ → ℕ → Bool
 jointly joint anyone sets s x q = bit q joint && matched_apart sets anyone s x q
 
 -- ── a row from its own digits ──
@@ -174,26 +191,30 @@ pub record Sides (φ : Term) (l : List Action) (left right users : ℕ) : Type 0
   pub acting : Acting l users
 
 -- of the set x of the actions l
-abbrev pub SidesAt : Term → List Action → List ℕ → ℕ → Type 0
-SidesAt φ l sets x = Sides φ (select x l) (left_at sets x) (right_at sets x) (users_in (note_at sets x))
+abbrev pub SidesAt : Term → List Action → List Entry → ℕ → Type 0
+SidesAt φ l sets x = Sides φ (select x l) (left_at sets x) (right_at sets x) (users_at sets x)
 
 -- what a row must be, whatever the policy and the actions
-abbrev pub RowOf : Masks → List ℕ → List ℕ → ℕ → ℕ → ℕ → ℕ → Type 0
+abbrev pub RowOf : Masks → List ℕ → List Entry → ℕ → ℕ → ℕ → ℕ → Type 0
 RowOf m ops sets met s row row-right =
     (φ : Term) (l : List Action) → Suited φ m ops → s < 2 ^ length l → ((x : ℕ) → x < s → SidesAt φ l sets x) → Noted (select s l) met
     → RowIs φ (select s l) row row-right
 
 -- what stands in the table for the set x of the actions l
-pub record Entry (φ : Term) (l : List Action) (sets : List ℕ) (x : ℕ) : Type 0 where
-  pub sides : SidesAt φ l sets x
-  pub noted : Noted (select x l) (met_in (note_at sets x))
-  pub twin : Perm (select (twin_in (note_at sets x)) l) (select x l)
-  pub earlier : twin_in (note_at sets x) ≤ x
-  pub satisfied : satisfied_in (left_at sets x) ≡ row_of false φ l x
-  pub possible : possible_in (left_at sets x) ≡ row_of true φ l x
+pub record IsEntry (φ : Term) (l : List Action) (x : ℕ) (r : Entry) : Type 0 where
+  pub sides : Sides φ (select x l) r.row.left r.row.right r.users
+  pub noted : Noted (select x l) r.met
+  pub twin : Perm (select r.twin l) (select x l)
+  pub earlier : r.twin ≤ x
+  pub satisfied : satisfied_in r.row.left ≡ row_of false φ l x
+  pub possible : possible_in r.row.left ≡ row_of true φ l x
 
-abbrev pub Known : Term → List Action → List ℕ → ℕ → Type 0
-Known φ l sets n = (x : ℕ) → x < n → Entry φ l sets x
+abbrev pub Known : Term → List Action → List Entry → ℕ → Type 0
+Known φ l sets n = (x : ℕ) → x < n → IsEntry φ l x (entry_at sets x)
+
+-- so it must be for the empty set, whatever the policy and the actions
+abbrev pub EmptyEntry : Masks → List ℕ → Entry → Type 0
+EmptyEntry m ops r = (φ : Term) (l : List Action) → Suited φ m ops → IsEntry φ l 0 r
 
 -- what is stored of the row of the set s
 pub record StoredIs (φ : Term) (l : List Action) (s : ℕ) (r : Stored) : Type 0 where
@@ -202,36 +223,22 @@ pub record StoredIs (φ : Term) (l : List Action) (s : ℕ) (r : Stored) : Type 
   pub possible : possible_in r.left ≡ row_of true φ l s
 
 -- so it must be where all sets before s are entered and `twin` has the actions of s
-abbrev pub StoredOf : Masks → List ℕ → List ℕ → ℕ → ℕ → ℕ → Stored → Type 0
+abbrev pub StoredOf : Masks → List ℕ → List Entry → ℕ → ℕ → ℕ → Stored → Type 0
 StoredOf m ops sets met s twin r =
     (φ : Term) (l : List Action) → Suited φ m ops → s < 2 ^ length l → Known φ l sets s → Noted (select s l) met → Perm (select twin l) (select s l) → StoredIs φ l s r
 
 -- the set s is entered too: its users are `who`, its actions all met `met`, and they are those of `twin`
-abbrev pub Entered : Masks → List ℕ → ℕ → ℕ → ℕ → ℕ → List ℕ → List ℕ → Type 0
+abbrev pub Entered : Masks → List ℕ → ℕ → ℕ → ℕ → ℕ → List Entry → List Entry → Type 0
 Entered m ops s who met twin sets sets' =
     (φ : Term) (l : List Action) → Suited φ m ops → s < 2 ^ length l → Acting (select s l) who → Noted (select s l) met → Perm (select twin l) (select s l)
     → Known φ l sets s → Known φ l sets' (s + 1)
 
--- the sets below n are entered, for actions of which `a` stands at place j and at those of `alike`
-abbrev pub Added : Masks → List ℕ → ℕ → Action → ℕ → ℕ → List ℕ → List ℕ → Type 0
-Added m ops j a alike n sets sets' =
-    (φ : Term) (l : List Action) → Suited φ m ops → j < length l → get_or l j (record { user = 0; met = 0 }) ≡ a → AlikePlaces l j alike
-    → Known φ l sets (2 ^ j) → Known φ l sets' n
-
--- the actions from one place up to another are by users below 16
-abbrev pub UsersBetween : List Action → ℕ → ℕ → Type 0
-UsersBetween l from to = (k : ℕ) → from ≤ k → k < to → (get_or l k (record { user = 0; met = 0 })).user < 16
-
--- the sets of the first `from` actions are entered, where they were, or there are none but the empty one
-abbrev pub Begun : Masks → List ℕ → ℕ → List ℕ → List ℕ → Type 0
-Begun m ops from sets sets' = (φ : Term) (l : List Action) → Suited φ m ops → (0 < from → Known φ l sets (2 ^ from)) → Known φ l sets' (2 ^ from)
-
--- and so are those of the first `to`
-abbrev pub AddedFrom : Masks → List ℕ → List Action → ℕ → ℕ → List ℕ → List ℕ → Type 0
-AddedFrom m ops l from to sets sets' = (φ : Term) → Suited φ m ops → (0 < from → Known φ l sets (2 ^ from)) → Known φ l sets' (2 ^ to)
+-- where the sets of the actions l are entered, so are those with one action more
+abbrev pub Added : Masks → List ℕ → List Action → Action → List Entry → List Entry → Type 0
+Added m ops l a sets sets' = (φ : Term) → Suited φ m ops → Known φ l sets (2 ^ length l) → Known φ (l ++ (a ∷ [])) sets' (2 ^ (length l + 1))
 
 -- the sets below n of the actions l are entered
-abbrev pub AddedAll : Masks → List ℕ → List Action → ℕ → List ℕ → Type 0
+abbrev pub AddedAll : Masks → List ℕ → List Action → ℕ → List Entry → Type 0
 AddedAll m ops l n sets = (φ : Term) → Suited φ m ops → Known φ l sets n
 
 -- the first n words are zero, and the others stay
@@ -245,7 +252,7 @@ pub record Kept (n : ℕ) (before after : List ℕ) : Type 0 where
   pub high : (k : ℕ) → 4096 + n ≤ k → get_or after k 0 ≡ get_or before k 0
 
 -- the rows of the sets below n are written to the workspace, which keeps its other words
-pub record Written (n : ℕ) (sets before after : List ℕ) : Type 0 where
+pub record Written (n : ℕ) (sets : List Entry) (before after : List ℕ) : Type 0 where
   pub satisfied : (x : ℕ) → x < n → get_or after x 0 ≡ satisfied_in (left_at sets x)
   pub possible : (x : ℕ) → x < n → get_or after (4096 + x) 0 ≡ possible_in (left_at sets x)
   pub kept : Kept n before after
@@ -273,26 +280,26 @@ pub data Like (met : List ℕ) (acted u : ℕ) : ℕ → Type 0 where
 abbrev pub Marked : ℕ → ℕ → Bool → ℕ → Type 0
 Marked users u b r = (v : ℕ) → bit v r ≡ (bit v users || (eqb v u && b))
 
--- whether the actions with one more by user u are possible, bit v for each user v above u known; and the table still has the sets below n
-abbrev pub Judges : Masks → List ℕ → List Action → ℕ → List ℕ → ℕ → ℕ → ℕ → List ℕ → List ℕ → Bool → Type 0
-Judges m ops l j met acted tried u sets sets' r =
-    (φ : Term) → Suited φ m ops → Acting (take j l) acted → Known φ l sets (2 ^ j)
-    → ((v : ℕ) → u < v → v < length met → bit v tried ≡ possible φ 0 (take j l ++ (action_by met v ∷ [])))
-    → (r ≡ possible φ 0 (take j l ++ (action_by met u ∷ []))) × Known φ l sets' (2 ^ j)
+-- whether the actions with one more by user u are possible, bit v for each user v above u known; and the table still has their sets
+abbrev pub Judges : Masks → List ℕ → List Action → List ℕ → ℕ → ℕ → ℕ → List Entry → List Entry → Bool → Type 0
+Judges m ops l met acted tried u sets sets' r =
+    (φ : Term) → Suited φ m ops → Acting l acted → Known φ l sets (2 ^ length l)
+    → ((v : ℕ) → u < v → v < length met → bit v tried ≡ possible φ 0 (l ++ (action_by met v ∷ [])))
+    → (r ≡ possible φ 0 (l ++ (action_by met u ∷ []))) × Known φ l sets' (2 ^ length l)
 
 -- the same by a trial
-abbrev pub Tries : Masks → List ℕ → List Action → ℕ → Action → List ℕ → List ℕ → Bool → Type 0
-Tries m ops l j a sets sets' r = (φ : Term) → Suited φ m ops → Known φ l sets (2 ^ j) → (r ≡ possible φ 0 (take j l ++ (a ∷ []))) × Known φ l sets' (2 ^ j)
+abbrev pub Tries : Masks → List ℕ → List Action → Action → List Entry → List Entry → Bool → Type 0
+Tries m ops l a sets sets' r = (φ : Term) → Suited φ m ops → Known φ l sets (2 ^ length l) → (r ≡ possible φ 0 (l ++ (a ∷ []))) × Known φ l sets' (2 ^ length l)
 
--- the last of the first n actions is by the last of the users, if there are any
-abbrev pub LastActs : List Action → ℕ → List ℕ → Type 0
-LastActs l n met = 0 < length met → (0 < n) × (get_or l (n - 1) (record { user = 0; met = 0 }) ≡ action_by met (length met - 1))
+-- the last action is by the last of the users, if there are any
+abbrev pub LastActs : List Action → List ℕ → Type 0
+LastActs l met = 0 < length met → (0 < length l) × (get_or l (length l - 1) (record { user = 0; met = 0 }) ≡ action_by met (length met - 1))
 
--- the users who can act in place of the last of the first n actions
-abbrev pub TriesEach : Masks → List ℕ → List Action → ℕ → List ℕ → ℕ → Type 0
-TriesEach m ops l n met r = (φ : Term) → Suited φ m ops → LastActs l n met → r ≡ can_act φ (take (n - 1) l) met
+-- the users who can act in place of the last action
+abbrev pub TriesEach : Masks → List ℕ → List Action → List ℕ → ℕ → Type 0
+TriesEach m ops l met r = (φ : Term) → Suited φ m ops → LastActs l met → r ≡ can_act φ (take (length l - 1) l) met
 
 -- the workspace is filled, and users are tried so; where it is not filled, nobody is
-pub record FillsTrying (words : List ℕ) (l : List Action) (n : ℕ) (met before : List ℕ) (r : ℕ) (after : List ℕ) : Type 0 where
-  pub workspace : after ≡ fill_of words l n before
-  pub users : LastActs l n met → r ≡ cond (is_filled words l n before) (can_act (term_of (decode words)) (take (n - 1) l) met) 0
+pub record FillsTrying (words : List ℕ) (l : List Action) (met before : List ℕ) (r : ℕ) (after : List ℕ) : Type 0 where
+  pub workspace : after ≡ fill_of words l (length l) before
+  pub users : LastActs l met → r ≡ cond (is_filled words l (length l) before) (can_act (term_of (decode words)) (take (length l - 1) l) met) 0

@@ -1,85 +1,76 @@
 // The ways to part a set in two, walked for the words of together and apart.
-ghost use Rattle.std.specs.Prelude.{ℕ, ◌+◌, ◌*◌, ◌≤◌, ◌<◌, length};
-ghost use Rattle.workspace.specs.Private.{PartAt, Parted, Gathered, Joined, Next, matched, matched_apart, jointly};
+ghost use Rattle.std.specs.Prelude.{ℕ, Bool, false, ◌≡◌, ◌-◌, ◌<◌, length};
+ghost use Rattle.workspace.specs.Private.{Joined, JoinedBy, Gathers, Adds, Next, digits, found_in, entry_at, sided, sided_apart, jointly};
 
-use rows::{counted, users_in};
+use super::entry::Entry;
+use rows::counted;
 
-// What parts of a set have at left sides while their rests have it at right sides, and the other way round.
+// What parts of a set have at left sides while their rests have it at right sides, and the other way round. They are kept apart, since
+// compilers put both sides into one operation.
 #[derive(Clone, Copy)]
 struct Found {
     ahead: u64,
     back: u64,
 }
 
-const NOTHING: Found = Found { ahead: 0, back: 0 };
-
-// With the part whose numbers begin at place a of the table; whole is the set's own place.
-fn found_at(sets: &[u64], found: Found, whole: usize, a: usize) -> Found
-    requires { (a ≤ whole) × (whole < 12288) × (whole + 2 < length sets.now) }
-    ensures { (s x : ℕ) → PartAt whole a s x → Gathered (matched sets.now s) s x found.ahead found.back result.ahead result.back }
-{
-    let b = whole - a;
-    Found {
-        ahead: found.ahead | (sets[a] & sets[b + 1]),
-        back: found.back | (sets[b] & sets[a + 1]),
+impl Found {
+    // With the words of one part.
+    fn with(self, part: Entry, rest: Entry) -> Self
+        ensures { Adds sided part rest (found_in self) (found_in result) }
+    {
+        Found {
+            ahead: self.ahead | (part.row.left & rest.row.right),
+            back: self.back | (rest.row.left & part.row.right),
+        }
     }
 }
 
-// The words of one part, both ways; but where it shares a user with its rest, only the words of anyone.
-fn parted_apart(sets: &[u64], anyone: u64, whole: usize, a: usize) -> u64
-    requires { (a ≤ whole) × (whole < 12288) × (whole + 2 < length sets.now) }
-    ensures { (s x : ℕ) → PartAt whole a s x → Parted (matched_apart sets.now anyone s) s x result }
+// What is found, with the words of one part; but where a user acts in both it and its rest, only the words of anyone.
+fn with_apart(found: u64, part: Entry, rest: Entry, anyone: u64) -> u64
+    ensures { Adds (sided_apart anyone) part rest (digits found) (digits result) }
 {
-    let b = whole - a;
-    let shared = users_in(sets[a + 2]) & users_in(sets[b + 2]);
-    let found = found_at(sets, NOTHING, whole, a);
-    counted(found.ahead | found.back, shared, anyone)
+    let words = (part.row.left & rest.row.right) | (rest.row.left & part.row.right);
+    found | counted(words, part.users & rest.users, anyone)
 }
 
-// Where some part of s that is neither empty nor s stands so; t is s without its last action. The walk is over the parts of t without
-// its first action, and a turn takes a part with and without that action: a step of the walk waits for the one before.
-fn joined(sets: &[u64], s: usize, t: usize) -> u64
-    requires { (0 < t) × (s < 4096) × (3 * s + 2 < length sets.now) × Next s t }
-    ensures { Joined (matched sets.now s) s result }
+// What is gathered of all parts of s that are neither empty nor s, each with its rest, either way; t is s without its last action. The
+// walk is over the parts of t without its first action, and a turn takes a part with and without that action: a step of the walk
+// waits for the one before. It goes down through the masks within a mask, which no range does, so it is a `while`. The sets with t's
+// first action stand in a slice of their own, so that a place is found once for both.
+fn joined<A: Copy, F: Fn(A, Entry, Entry) -> A>(
+    sets: &[Entry],
+    s: usize,
+    t: usize,
+    none: A,
+    gather: F,
+) -> A
+    requires some { 0 < t }
+    requires within { s < length sets.now }
+    requires few { s < 4096 }
+    requires next { Next s t }
+    requires callable { F.IsAlwaysCallable gather }
+    ensures { (has : A → ℕ → Bool) (f : Entry → Entry → ℕ → Bool) → Gathers (F.post gather) has f → ((q : ℕ) → has none q ≡ false)
+        → JoinedBy (λ x. f (entry_at sets.now x) (entry_at sets.now (s - x))) s (has result) }
 {
-    let whole = 3 * s;
     let high = t & (t - 1);
-    let low = 3 * (t - high);
-    let mut found = found_at(sets, NOTHING, whole, low);
+    let low = t - high;
+    let with_first = &sets[low..];
+    let rest = s - low;
+    let mut found = gather(none, sets[low], sets[rest]);
     let mut a = high;
     while 0 < a {
-        let at = 3 * a;
-        found = found_at(sets, found, whole, at);
-        found = found_at(sets, found, whole, at + low);
+        let b = rest - a;
+        found = gather(found, sets[a], with_first[b]);
+        found = gather(found, with_first[a], sets[b]);
         a = (a - 1) & high;
     }
-    found.ahead | found.back
-}
-
-// The same by parted_apart.
-fn joined_apart(sets: &[u64], anyone: u64, s: usize, t: usize) -> u64
-    requires { (0 < t) × (s < 4096) × (3 * s + 2 < length sets.now) × Next s t }
-    ensures { Joined (matched_apart sets.now anyone s) s result }
-{
-    let whole = 3 * s;
-    let high = t & (t - 1);
-    let low = 3 * (t - high);
-    let mut acc = parted_apart(sets, anyone, whole, low);
-    let mut a = high;
-    while 0 < a {
-        let at = 3 * a;
-        let one = parted_apart(sets, anyone, whole, at);
-        let two = parted_apart(sets, anyone, whole, at + low);
-        acc = acc | (one | two);
-        a = (a - 1) & high;
-    }
-    acc
+    found
 }
 
 // The parts of s at the words of joint, of together and apart; a single action has none. Where no word of apart is left, users need
 // not be compared.
-pub(crate) fn joints(joint: u64, anyone: u64, sets: &[u64], s: usize, t: usize) -> u64
-    requires { (s < 4096) × (3 * s + 2 < length sets.now) × Next s t }
+pub(crate) fn joints(joint: u64, anyone: u64, sets: &[Entry], s: usize, t: usize) -> u64
+    requires { (s < 4096) × (s < length sets.now) × Next s t }
     ensures { Joined (jointly joint anyone sets.now s) s result }
 {
     if joint == 0 {
@@ -89,7 +80,21 @@ pub(crate) fn joints(joint: u64, anyone: u64, sets: &[u64], s: usize, t: usize) 
         return 0;
     }
     if joint & anyone == joint {
-        return joined(sets, s, t) & joint;
+        let nothing = Found { ahead: 0, back: 0 };
+        let found = joined(
+            sets,
+            s,
+            t,
+            nothing,
+            |found, part, rest| found.with(part, rest),
+        );
+        return (found.ahead | found.back) & joint;
     }
-    joined_apart(sets, anyone, s, t) & joint
+    joined(
+        sets,
+        s,
+        t,
+        0,
+        |found, part, rest| with_apart(found, part, rest, anyone),
+    ) & joint
 }

@@ -1,23 +1,19 @@
-// The actions alike another one, which give sets their twins.
-ghost use Rattle.std.specs.Prelude.{◌<◌};
+// The actions alike another one, which give sets their twins. Actions are alike if they are equal: by one user, who met the same unit
+// terms.
+ghost use Rattle.std.specs.Prelude.{◌∷◌, ◌++◌, [], ◌<◌, length};
 ghost use Rattle.workspace.specs.Private.{AlikePlaces};
 
-use rows::is_alike;
 use soda::Action;
 
-// The places before j of the actions that are alike the one there.
-pub(crate) fn alike_of(actions: [Action; 12], j: usize) -> usize
-    requires { j < 12 }
-    ensures { AlikePlaces actions j result }
+// The places of the actions before this one that are alike it.
+pub(crate) fn alike_of(before: &[Action], action: Action) -> usize
+    requires { length before.now < 12 }
+    ensures { AlikePlaces (before.now ++ (action ∷ [])) (length before.now) result }
 {
-    let a = actions[j];
     let mut alike: usize = 0;
-    let mut k: usize = 0;
-    while k < j {
-        let at = k;
-        k = k + 1;
-        if is_alike(actions[at], a) {
-            alike = alike | (1 << at);
+    for (k, &other) in before.iter().enumerate() {
+        if other == action {
+            alike |= 1 << k;
         }
     }
     alike

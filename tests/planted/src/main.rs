@@ -1,10 +1,10 @@
 //! Turns the sources of all crates into plain Rust that no prover has to accept, with a planted
 //! mistake or without: `plain CRATES OUT [EDIT]`.
 //!
-//! Rattle's code is Rust but for its contracts. What is dropped: `requires` and `ensures` clauses
-//! and `ghost use` items. What is added: Rattle's values are copied, so every struct and enum can
-//! be, and a struct has the C layout; and Rust passes a slice to C in another way, so a function
-//! with the C calling convention is a Rust function, beside one for C that hands on to it.
+//! Rattle's code is Rust but for its contracts. What is dropped: `requires` and `ensures` clauses,
+//! ghost items, ghost fields and ghost members. What is added: Rust passes a slice to C in another
+//! way, so a function with the C calling convention is a Rust function, beside one for C that hands
+//! on to it.
 
 #![forbid(unsafe_code)]
 
@@ -135,11 +135,21 @@ fn clause_length(text: &str) -> usize {
     text.len()
 }
 
+/// The length of a ghost item, which ends in a semicolon, or of a ghost field or member, whose
+/// braces a comma or a semicolon follows.
+fn ghost_length(text: &str) -> usize {
+    if text.starts_with("ghost use ") {
+        return text.find(';').map_or(text.len(), |place| place + 1);
+    }
+    let length = clause_length(text);
+    length + usize::from(text[length..].starts_with([',', ';']))
+}
+
 /// How much of a text is dropped at a name that begins it.
 fn dropped(name: &str, text: &str) -> usize {
     match name {
         "requires" | "ensures" => clause_length(text),
-        "ghost" => text.find(';').map_or(text.len(), |place| place + 1),
+        "ghost" => ghost_length(text),
         "extern" => text.find("fn").unwrap_or(0),
         _ => 0,
     }
@@ -177,25 +187,15 @@ fn with_numbers(code: &str) -> String {
     code
 }
 
-/// Whether a line is an attribute that only Rattle reads, or one that is put anew.
+/// Whether a line is an attribute that only Rattle reads.
 fn is_rattles(line: &str) -> bool {
     let line = line.trim_start();
-    ["#[unsafe(no_mangle)]", "#[repr(C)]", "#[derive(", "#[cycle(", "#[tactic(", "#![tactic("]
+    ["#[unsafe(no_mangle)]", "#[cycle(", "#[tactic(", "#![tactic("]
         .iter()
         .any(|start| line.starts_with(start))
 }
 
-/// The code with its attributes for Rust.
+/// The code without the attributes that only Rattle reads.
 fn with_attributes(code: &str) -> String {
-    let mut lines = Vec::new();
-    for line in code.lines().filter(|line| !is_rattles(line)) {
-        let item = line.trim_start_matches("pub ").trim_start_matches("pub(crate) ");
-        if item.starts_with("struct ") {
-            lines.push("#[derive(Clone, Copy)]\n#[repr(C)]");
-        } else if item.starts_with("enum ") {
-            lines.push("#[derive(Clone, Copy)]");
-        }
-        lines.push(line);
-    }
-    lines.join("\n") + "\n"
+    code.lines().filter(|line| !is_rattles(line)).map(|line| format!("{line}\n")).collect()
 }

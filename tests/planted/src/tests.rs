@@ -28,10 +28,11 @@ fn numbers_wrap_by_rusts_names() {
 }
 
 #[test]
-fn structs_and_enums_are_copied() {
-    let code = to_rust("#[derive(Drop)]\npub struct A {\n    pub b: u8,\n}\nenum E {\n    X,\n}\n");
-    assert!(code.starts_with("#[derive(Clone, Copy)]\n#[repr(C)]\npub struct A {\n"));
-    assert!(code.contains("}\n#[derive(Clone, Copy)]\nenum E {\n"));
+fn ghost_fields_and_members_are_dropped() {
+    let field = "#[derive(Clone, Copy)]\nstruct A {\n    b: u8,\n    ghost few: { b < 3 },\n}\n";
+    assert_eq!(to_rust(field), "#[derive(Clone, Copy)]\nstruct A {\n    b: u8,\n    \n}\n");
+    let member = "impl From<A> for u8 {\n    ghost from_gives = { λ a n. n ≡ a.b };\n\n    fn f() {}\n}\n";
+    assert_eq!(to_rust(member), "impl From<A> for u8 {\n    \n\n    fn f() {}\n}\n");
 }
 
 #[test]

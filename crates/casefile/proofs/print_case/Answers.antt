@@ -1,20 +1,21 @@
 -- Each return puts the text of its case at the output's start: malformed, refused by the opening, or run.
-use Rattle.std.proofs.Common.{◌≡◌, ◌+◌, ◌≤◌, ◌++◌, ℕ, List, true, false, length, drop, sym, ap, subst, ◌∙◌, lt-ltb, le-ltb, eq-eqb, arith}
+use Rattle.std.proofs.Common.{◌≡◌, ◌+◌, ◌≤◌, ◌++◌, ℕ, List, Bool, true, false, cond, Some, None, length, drop, refl, sym, ap, subst, ◌∙◌, lt-ltb, le-ltb, eq-eqb, arith}
 use borrow.Author.Tests.{ne_eqb}
 use Rattle.std.proofs.Math.Bool.{So}
-use Rattle.policy.specs.Codes.{CASE}
+use Rattle.policy.specs.Codes.{ACCEPTED, CASE, Plain}
 use Rattle.policy.specs.Faults.{code_number}
-use Rattle.policy.specs.declared.Code.TheVariants.{Plain}
+use Rattle.policy.specs.Answers.{code_of}
+use Rattle.policy.specs.declared.refusal.Refusal.{Refusal}
 use Rattle.policy.proofs.Places.{code_has_number}
 use Rattle.monitor.specs.declared.Monitor.{Monitor}
-use Rattle.monitor.specs.declared.Opened.{Opened}
-use Rattle.monitor.specs.Monitors.{open_code, fresh, opened, opening, well_formed}
+use Rattle.monitor.specs.Monitors.{Opened, open_code, blank, fresh, opened, opening, well_formed}
 use Rattle.monitor.proofs.Opening.{opened-is-fresh}
 use Rattle.monitor.proofs.Preserved.{opened-is_well_formed}
-use Rattle.casefile.specs.declared.Printed.TheVariants.{Written}
+use Rattle.casefile.specs.declared.cases.Case.{Case}
 use Rattle.casefile.specs.Cases.{case_ok, opening_of, event_words}
-use Rattle.casefile.specs.Texts.{refused_text, run_text, case_text, limit, printed, output}
+use Rattle.casefile.specs.Texts.{Written, refused_text, run_text, case_text, limit, printed, output}
 use Rattle.casefile.specs.Private.{Put}
+use Rattle.casefile.proofs.Refusing.{above-none}
 use Rattle.casefile.proofs.print_case.Goals as goal
 
 -- ── the text of a case ──
@@ -44,21 +45,30 @@ module _ (b : List ℕ) where
         p.holds ∙ ap (λ (k : ℕ). text ++ drop k out) n ∙ rw (le-ltb (length out) limit l, e),
       )
 
--- ── what its opening gave ──
-module _ (b : List ℕ) (o : Opened) (is : o ≡ opening (opening_of b)) where
-  code_is : o.code ≡ (opening (opening_of b)).code
-  code_is = ap (λ (a : Opened). a.code) is
+  -- ── what its opening gave ──
+  number_is : code_number (opening (opening_of b)).code ≡ number
+  number_is = let i = opening_of b in code_has_number i.users i.roles i.words (open_code i)
 
-  left_is : o.monitor ≡ opened (opening_of b)
-  left_is = ap (λ (a : Opened). a.monitor) is
+  accepted : (m : Monitor) → record { code = Plain ACCEPTED; monitor = m } ≡ opening (opening_of b) → number ≡ 0
+  accepted m e = sym (ap (λ (o : Opened). code_number o.code) e ∙ number_is)
 
-  number_is : code_number o.code ≡ number b
-  number_is =
-      let i = opening_of b in
-      ap code_number code_is ∙ code_has_number i.users i.roles i.words (open_code i)
+  left_is : (m : Monitor) → record { code = Plain ACCEPTED; monitor = m } ≡ opening (opening_of b) → m ≡ opened (opening_of b)
+  left_is m e = ap (λ (o : Opened). o.monitor) e
 
-  fresh-is : number b ≡ 0 → o.monitor ≡ fresh (opening_of b)
-  fresh-is z = left_is ∙ opened-is-fresh (opening_of b) z
+  code_is : (r : Refusal) → record { code = code_of r; monitor = blank } ≡ opening (opening_of b) → code_of r ≡ (opening (opening_of b)).code
+  code_is r e = ap (λ (o : Opened). o.code) e
+
+  refused : (r : Refusal) → record { code = code_of r; monitor = blank } ≡ opening (opening_of b) → number ≡ 0 → ⊥
+  refused r e z = let k = above-none r in let n = ap code_number (code_is r e) ∙ number_is ∙ z in absurd (omega arith)
+
+-- what is read of a case, or not
+found : (t : Bool) (x y : Case) → Some y ≡ cond t (Some x) None → (t ≡ true) × (y ≡ x)
+found true x y e = (refl, cc)
+found false x y e = cc
+
+not_found : (t : Bool) (x : Case) → None ≡ cond t (Some x) None → t ≡ false
+not_found true x e = cc
+not_found false x e = refl
 
 pub returns-then-out-lt-LIMIT : goal.returns-then-out-lt-LIMIT
 unfolding printed output
@@ -66,42 +76,40 @@ returns-then-out-lt-LIMIT c =
     let out : List ℕ = c.args.out.now in
     (rw (lt-ltb (length out) limit (omega arith)), rw (lt-ltb (length out) limit (omega arith)))
 
-pub returns-then-not-case_ok : goal.returns-then-not-case_ok
-returns-then-not-case_ok c =
+pub returns-in_default : goal.returns-in_default
+returns-in_default c =
     let b : List ℕ = c.args.bytes.now in
-    answered b c.args.out.now (omega arith) (malformed_text b (sym c.case_ok.ensures ∙ c.if-not-case_ok.true)) c.put_refused.ensures
-
-pub returns-then-number_of-ne-ACCEPTED : goal.returns-then-number_of-ne-ACCEPTED
-returns-then-number_of-ne-ACCEPTED c =
-    let b : List ℕ = c.args.bytes.now in
-    let o = c.open_case-opened in
-    let well : case_ok b ≡ true = sym c.case_ok.ensures ∙ c.if-not-case_ok.false in
-    let numbered : c.number_of.result ≡ number b = c.number_of.ensures ∙ number_is b o.result o.ensures in
-    let refused : number b ≡ 0 → ⊥ = λ (z : number b ≡ 0). c.if-number_of-ne-ACCEPTED.true (numbered ∙ z) in
-    answered b c.args.out.now (omega arith) (refused-text b well refused ∙ ap refused_text (sym (code_is b o.result o.ensures)))
-    c.put_refused-then-number_of-ne-ACCEPTED.ensures
+    answered b c.args.out.now (omega arith) (malformed_text b (not_found _ _ (sym c.in_default.is ∙ c.read.ensures))) c.put_refused.ensures
 
 pub run-requires : goal.run-requires
 unfolding fresh
 run-requires c =
     let b : List ℕ = c.args.bytes.now in
-    let o = c.open_case-opened in
-    let well : case_ok b ≡ true = sym c.case_ok.ensures ∙ c.if-not-case_ok.false in
-    let accepted : number b ≡ 0 = sym (c.number_of.ensures ∙ number_is b o.result o.ensures) ∙ c.if-number_of-ne-ACCEPTED.false in
-    let new = fresh-is b o.result o.ensures accepted in
+    let m = c.in-Ok.monitor in
+    let read = found _ _ _ (sym c.in-Some.is ∙ c.read.ensures) in
+    let opens = accepted b m c.in-Ok.ensures in
+    let new : m ≡ fresh (opening_of b) = left_is b m c.in-Ok.ensures ∙ opened-is-fresh (opening_of b) opens in
     record {
-      is_formed = subst (λ (i : Monitor). So (well_formed i)) (sym new) (opened-is_well_formed (opening_of b) accepted);
+      is_formed = subst (λ (i : Monitor). So (well_formed i)) (sym new) (opened-is_well_formed (opening_of b) opens);
       none = ap (λ (i : Monitor). i.instance.taken) new;
-      case = well;
+      case = read.0;
+      part = ap (λ (x : Case). x.events) read.1;
       fits = omega arith;
     }
 
-pub returns : goal.returns
-returns c =
+pub returns-in-Ok : goal.returns-in-Ok
+returns-in-Ok c =
     let b : List ℕ = c.args.bytes.now in
-    let o = c.open_case-opened in
-    let well : case_ok b ≡ true = sym c.case_ok.ensures ∙ c.if-not-case_ok.false in
-    let accepted : number b ≡ 0 = sym (c.number_of.ensures ∙ number_is b o.result o.ensures) ∙ c.if-number_of-ne-ACCEPTED.false in
-    let text : case_text b ≡ run_text o.result.monitor (event_words b) =
-    opened-text b well accepted ∙ ap (λ (i : Monitor). run_text i (event_words b)) (sym (left_is b o.result o.ensures)) in
+    let m = c.in-Ok.monitor in
+    let read = found _ _ _ (sym c.in-Some.is ∙ c.read.ensures) in
+    let text : case_text b ≡ run_text m (event_words b) =
+    opened-text b read.0 (accepted b m c.in-Ok.ensures) ∙ ap (λ (i : Monitor). run_text i (event_words b)) (sym (left_is b m c.in-Ok.ensures)) in
     answered b c.args.out.now (omega arith) text c.run.ensures
+
+pub returns-in-Err : goal.returns-in-Err
+returns-in-Err c =
+    let b : List ℕ = c.args.bytes.now in
+    let r = c.in-Err.refusal in
+    let read = found _ _ _ (sym c.in-Some.is ∙ c.read.ensures) in
+    answered b c.args.out.now (omega arith) (refused-text b read.0 (refused b r c.in-Err.ensures) ∙ ap refused_text (sym (code_is b r c.in-Err.ensures)))
+    c.put_refused-in-Err.ensures

@@ -1,9 +1,7 @@
 -- The text that the call wrote stands in the output, so it is no longer than that.
 use Rattle.std.proofs.Common.{◌≡◌, ◌≤◌, ◌++◌, ℕ, List, length, drop, replicate, length-append, sym, ap, ◌∙◌, le-ltb, arith}
 use Rattle.std.proofs.Math.Seq.{length-take-le}
-use Rattle.casefile.specs.Texts.{case_text, limit, printed, output}
-use Rattle.casefile.specs.declared.Printed.{Printed}
-use Rattle.casefile.specs.declared.Printed.TheVariants.{Written, TooShort}
+use Rattle.casefile.specs.Texts.{Printed, Written, TooShort, case_text, limit, printed, output}
 use Rattle.judge.proofs.main.Goals as goal
 
 -- the length that an answer gives
@@ -23,9 +21,9 @@ fits bytes out {n} {new} l e f k =
 pub slice_bounds-out-end : goal.slice_bounds-out-end
 slice_bounds-out-end c =
     let j = c.print_case in
-    fits _ (replicate 2313 0) (omega arith) (sym c.in-Written.is ∙ j.ensures.0) j.ensures.1 j.auto.out
+    fits _ (replicate 2313 0) (omega arith) c.in-Some.ensures.0 j.ensures.1 j.auto.out
 
 pub slice_bounds-write_all-end : goal.slice_bounds-write_all-end
 slice_bounds-write_all-end c =
     let j = c.print_case in
-    sym (length-take-le c.in-Written.length j.new.out (fits _ (replicate 2313 0) (omega arith) (sym c.in-Written.is ∙ j.ensures.0) j.ensures.1 j.auto.out))
+    sym (length-take-le c.in-Some.length j.new.out (fits _ (replicate 2313 0) (omega arith) c.in-Some.ensures.0 j.ensures.1 j.auto.out))

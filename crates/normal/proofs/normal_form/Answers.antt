@@ -1,9 +1,10 @@
 -- The reader's answer decides: a refusal is passed on, and an accepted policy is the words of one term, whose normal form is written.
-use Rattle.std.proofs.Common.{◌≡◌, ℕ, ◌≤◌, ◌<◌, Bool, true, false, cond, List, [], ◌∷◌, length, ltb, eqb, refl, sym, ap, ◌∙◌, arith, eqb-true, ne_eqb, lt-ltb, le-ltb}
+use Rattle.std.proofs.Common.{◌≡◌, ℕ, ◌≤◌, ◌<◌, Bool, true, false, cond, List, [], ◌∷◌, ◌++◌, drop, length, ltb, eqb, refl, sym, ap, ◌∙◌, arith, eqb-true, ne_eqb, lt-ltb, le-ltb}
 use Rattle.std.proofs.lemmas.Bool.{eqb-false}
 use mathlib.Core.Logic.{◌≢◌}
 use mathlib.Core.List.{append-nil}
 use Rattle.soda.specs.Terms.{size}
+use Rattle.soda.specs.Normal.{normal_form}
 use Rattle.soda.specs.Words.{encode}
 use Rattle.soda.proofs.Bools.{by_test}
 use Rattle.soda.proofs.Words.{encode-length}
@@ -11,15 +12,18 @@ use Rattle.policy.specs.Codes.{ACCEPTED, OUTPUT}
 use Rattle.policy.specs.Refusals.{code}
 use Rattle.policy.specs.Words.{decode}
 use Rattle.policy.specs.Faults.{code_at}
-use Rattle.policy.specs.Reading.{refusals, units_of, code_read, read_policy}
+use Rattle.policy.specs.Reading.{refusals, units_of, read_policy}
 use Rattle.normal.specs.NormalForms.{normal_words, normal_refusals, normal_code, normal_answer, normal_out}
 use Rattle.normal.specs.Private.{Spelt, Written}
-use Rattle.policy.specs.declared.Code.{Code}
-use Rattle.policy.specs.declared.Code.TheVariants.{Plain}
-use Rattle.policy.specs.declared.PolicyRead.{PolicyRead}
-use Rattle.policy.specs.declared.PolicyRead.TheVariants.{Accepted, Refused}
+use Rattle.policy.specs.Codes.{Code}
+use Rattle.policy.specs.Answers.{answer_code, code_of}
+use Rattle.policy.specs.Codes.{Plain}
+use Rattle.policy.specs.Reading.{PolicyRead}
+use Rattle.policy.specs.Reading.{Accepted, Refused}
 use Rattle.policy.proofs.Refusals.{clear, code_front, code-behind}
 use Rattle.policy.proofs.Accepted.{read_is-encode, policy-is-words, decode-is-term}
+use Rattle.std.proofs.lemmas.Result.{err_from_is_err_and}
+use Rattle.normal.proofs.Normalising.{spelt}
 use Rattle.normal.proofs.normal_form.Goals as goal
 
 -- ── the answer ──
@@ -92,60 +96,54 @@ module _ (users roles : ℕ) (ws out : List ℕ) where
     accepted : 0 ≡ normal_code users roles ws (length out)
     accepted = sym (behind (length out) (clear_code n m e) ∙ rw (le-ltb (length out) (length ws) (omega (arith, word_count n m e))))
 
-    spelt : Spelt ws (length out)
-    spelt =
+    is-spelt : Spelt ws (length out)
+    is-spelt =
         let r = (read_is-encode users roles ws n m).0 e in
         let p = r.1 in
-        record {
-          term = r.0;
-          rest = [];
-          words = p.written ∙ sym (append-nil (encode r.0));
-          fit = (policy-is-words users roles ws r.0 p).fit;
-          short = p.short;
-          room = omega (arith, r.2);
-        }
+        spelt ws (length out) r.0 [] (p.written ∙ sym (append-nil (encode r.0))) (policy-is-words users roles ws r.0 p).fit
+        (omega (arith, p.short, ap length p.written, encode-length r.0)) (omega (arith, word_count n m e))
 
     written : {r : ℕ} {new : List ℕ} → Written ws out r new → new ≡ normal_out users roles ws out
-    unfolding normal_out normal_words spelt
-    written f =
+    unfolding normal_out normal_words is-spelt spelt
+    written {new = new} f =
         let r = (read_is-encode users roles ws n m).0 e in
         let l : length ws ≡ size r.0 = ap length r.1.written ∙ encode-length r.0 in
-        (f spelt).1 ∙ rw (← accepted, decode-is-term users roles ws r.0 r.1, l)
+        let g : new ≡ encode (normal_form r.0) ++ drop (size r.0) out = (f is-spelt).1 in
+        g ∙ rw (← accepted, decode-is-term users roles ws r.0 r.1, l)
 
 -- ── the goals ──
-pub returns-in_default-clause-value : goal.returns-in_default-clause-value
-returns-in_default-clause-value c =
+pub returns-in_err-policy-clause-value : goal.returns-in_err-policy-clause-value
+returns-in_err-policy-clause-value c =
     let a = c.args in
-    let q = refused a.users a.roles a.words.now a.out.now c.in_default.field-0 (sym c.read-answer.ensures ∙ c.in_default.is) in
-    c.code_of.ensures ∙ ap code_read c.in_default.is ∙ q.0
+    let p = err_from_is_err_and c.from_residual.result c.from_residual.ensures.1 in
+    ap answer_code p.1 ∙ ap code_of p.2 ∙ (refused a.users a.roles a.words.now a.out.now _ (sym c.in_err-policy.ensures)).0
 
-pub returns-in_default-clause-out_after : goal.returns-in_default-clause-out_after
-returns-in_default-clause-out_after c =
+pub returns-in_err-policy-clause-out_after : goal.returns-in_err-policy-clause-out_after
+returns-in_err-policy-clause-out_after c =
     let a = c.args in
-    (refused a.users a.roles a.words.now a.out.now c.in_default.field-0 (sym c.read-answer.ensures ∙ c.in_default.is)).1
+    (refused a.users a.roles a.words.now a.out.now _ (sym c.in_err-policy.ensures)).1
 
-pub returns-then-out-n-clause-value : goal.returns-then-out-n-clause-value
-returns-then-out-n-clause-value c =
+pub returns-then-out-policy-clause-value : goal.returns-then-out-policy-clause-value
+returns-then-out-policy-clause-value c =
     let a = c.args in
-    (no_room a.users a.roles a.words.now a.out.now _ _ (sym c.read-answer.ensures ∙ c.in-Accepted.is) c.if-out-n.true).0
+    (no_room a.users a.roles a.words.now a.out.now _ _ (sym c.in_ok-policy.ensures) (omega arith)).0
 
-pub returns-then-out-n-clause-out_after : goal.returns-then-out-n-clause-out_after
-returns-then-out-n-clause-out_after c =
+pub returns-then-out-policy-clause-out_after : goal.returns-then-out-policy-clause-out_after
+returns-then-out-policy-clause-out_after c =
     let a = c.args in
-    (no_room a.users a.roles a.words.now a.out.now _ _ (sym c.read-answer.ensures ∙ c.in-Accepted.is) c.if-out-n.true).1
+    (no_room a.users a.roles a.words.now a.out.now _ _ (sym c.in_ok-policy.ensures) (omega arith)).1
 
--- the policy is accepted, and there is room for it
 pub normal_term-requires : goal.normal_term-requires
 normal_term-requires c =
     let a = c.args in
-    spelt a.users a.roles a.words.now a.out.now _ _ (sym c.read-answer.ensures ∙ c.in-Accepted.is) c.if-out-n.false
+    is-spelt a.users a.roles a.words.now a.out.now _ _ (sym c.in_ok-policy.ensures) (omega arith)
 
 pub returns-clause-value : goal.returns-clause-value
 returns-clause-value c =
     let a = c.args in
-    is_accepted a.users a.roles a.words.now a.out.now _ _ (sym c.read-answer.ensures ∙ c.in-Accepted.is) c.if-out-n.false
+    is_accepted a.users a.roles a.words.now a.out.now _ _ (sym c.in_ok-policy.ensures) (omega arith)
 
 pub returns-clause-out_after : goal.returns-clause-out_after
 returns-clause-out_after c =
     let a = c.args in
-    written a.users a.roles a.words.now a.out.now _ _ (sym c.read-answer.ensures ∙ c.in-Accepted.is) c.if-out-n.false c.normal_term.ensures
+    written a.users a.roles a.words.now a.out.now _ _ (sym c.in_ok-policy.ensures) (omega arith) c.normal_term.ensures.written

@@ -1,9 +1,10 @@
 -- At each `return` the tests that led there say whether the policy is accepted; what is found of its term is all that is asked.
-use Rattle.std.proofs.Common.{◌≡◌, ℕ, Bool, true, false, not, ◌&&◌, eqb, List, ◌∷◌, length, refl, sym, ap, ◌∙◌, true≢false}
+use Rattle.std.proofs.Common.{◌≡◌, ℕ, Bool, true, false, not, ◌&&◌, eqb, List, [], ◌∷◌, length, refl, sym, ap, ◌∙◌, true≢false}
+use Rattle.std.specs.Prelude.{Option as Maybe, Some, None}
 use mathlib.Core.Bool.{So}
-use mathlib.Core.Option.{Option, some, none}
 use borrow.Author.Tests.{not-true, not-false}
-use Rattle.soda.specs.Terms.{Term}
+use mathlib.Core.Option.{Option, some, none}
+use Rattle.soda.specs.Terms.{Term, well_formed}
 use Rattle.soda.specs.Lists.{all}
 use Rattle.soda.proofs.Bools.{and_split}
 use Rattle.policy.specs.Codes.{ACCEPTED, WORD_COUNT, WORD, COUNTS}
@@ -12,10 +13,9 @@ use Rattle.policy.specs.Reading.{count_ok, length_ok, units_of, layout_ok}
 use Rattle.policy.specs.Refusals.{Refusals, ◌gives◌, code}
 use Rattle.policy.proofs.Scanning.{length-range}
 use Rattle.policy.proofs.Accepted.{last_refusals}
-use Rattle.units.specs.Units.{met_in, met_of, survey_in, survey_of}
+use Rattle.units.specs.Units.{PolicySurvey, met_in, met_of, survey_in, survey_of}
 use Rattle.units.specs.Private.{analysis_in}
 use Rattle.units.specs.declared.terms.Analysis.{Analysis}
-use Rattle.units.specs.declared.Survey.{Survey}
 use Rattle.units.proofs.survey_of.Goals as goal
 
 -- ── 5, 1 and 2 ──
@@ -33,51 +33,53 @@ returns-then-not-in_layout c =
     let a = c.args in
     let ws = a.words.now in
     rw (early (count_ok a.users && count_ok a.roles) (length_ok (length ws)) (all (word_ok a.users a.roles) ws) (last_refusals (decode ws))
-    (sym c.in_layout.ensures ∙ c.if-not-in_layout.true))
+    (sym c.if-not-in_layout.ensures))
 
 -- the tests passed
-module _ (users roles : ℕ) (ws : List ℕ) (h : So (layout_ok users roles ws)) where
+module _ (users roles : ℕ) (ws : List ℕ) (laid : So (layout_ok users roles ws)) where
   counts : So (count_ok users && count_ok roles) × So (length_ok (length ws) && all (word_ok users roles) ws)
-  counts = and_split (count_ok users && count_ok roles) (length_ok (length ws) && all (word_ok users roles) ws) h
+  counts = and_split (count_ok users && count_ok roles) (length_ok (length ws) && all (word_ok users roles) ws) laid
 
   words : So (length_ok (length ws)) × So (all (word_ok users roles) ws)
   words = and_split (length_ok (length ws)) (all (word_ok users roles) ws) counts.1
 
--- ── 3 and 4 ──
-module _ (u h : ℕ) where
-  abbrev surveyed : Option Term → Survey
-  surveyed x = survey_in (eqb (code (last_refusals x)) 0) (units_of x) (met_in x u h)
+  -- ── 3 and 4 ──
+  module _ (u h : ℕ) where
+    -- what is found, if it is well formed
+    abbrev found : Maybe Analysis → PolicySurvey
+    found None = survey_in false 0 0
+    found (Some t) = survey_in t.formed t.units t.noted
 
-  refused : (x : Option Term) → (analysis_in u h x).formed ≡ false → record { accepted = false; units = 0; met = 0 } ≡ surveyed x
-  refused none f = refl
-  refused (some φ) f = rw f
+    -- the two tests that are left
+    late : (x : Option Term) → found (analysis_in u h x) ≡ survey_in (eqb (code (last_refusals x)) ACCEPTED) (units_of x) (met_in x u h)
+    late none = refl
+    late (some φ) = go (well_formed φ)
+      where
+        go : (b : Bool) → survey_in b (units_of (some φ)) (met_in (some φ) u h) ≡ survey_in (eqb (code ((not b gives 4) ∷ [])) ACCEPTED) (units_of (some φ)) (met_in (some φ) u h)
+        go true = refl
+        go false = refl
 
-  accepted : (x : Option Term) → (analysis_in u h x).formed ≡ true
-      → record { accepted = true; units = (analysis_in u h x).units; met = (analysis_in u h x).noted } ≡ surveyed x
-  accepted none f = absurd (true≢false (sym f))
-  accepted (some φ) f = rw f
+    surveyed : (t : Maybe Analysis) → t ≡ analysis_in u h (decode ws) → found t ≡ survey_of users roles ws u h
+    unfolding survey_of met_of
+    surveyed t e = rw (counts.0, words.0, words.1) (ap found e ∙ late (decode ws))
 
--- the two tests that are left
-late : (users roles : ℕ) (ws : List ℕ) (u h : ℕ) → So (layout_ok users roles ws) → surveyed u h (decode ws) ≡ survey_of users roles ws u h
-unfolding survey_of met_of
-late users roles ws u h k = rw ((counts users roles ws k).0, (words users roles ws k).0, (words users roles ws k).1)
-
-pub analyse-term-requires : goal.analyse-term-requires
-analyse-term-requires c =
+pub analyse-requires : goal.analyse-requires
+analyse-requires c =
     let a = c.args in
-    (length-range (length a.words.now) (words a.users a.roles a.words.now (sym c.in_layout.ensures ∙ c.if-not-in_layout.false)).0).1
+    (length-range (length a.words.now) (words a.users a.roles a.words.now (sym c.if-not-in_layout.ensures)).0).1
+
+pub returns-in_err-term : goal.returns-in_err-term
+returns-in_err-term c =
+    let a = c.args in
+    let e = surveyed a.users a.roles a.words.now (sym c.if-not-in_layout.ensures) a.user a.held _ (sym c.in_err-term.was ∙ c.analyse.ensures) in
+    rw c.from_residual.ensures e
 
 pub returns-then-not-term : goal.returns-then-not-term
 returns-then-not-term c =
     let a = c.args in
-    let t = c.analyse-term in
-    refused a.user a.held (decode a.words.now) (ap (λ (t : Analysis). t.formed) (sym t.ensures) ∙ not-true t.result.formed c.if-not-term.true)
-    ∙ late a.users a.roles a.words.now a.user a.held (sym c.in_layout.ensures ∙ c.if-not-in_layout.false)
+    rw (not-true c.in_ok-term.term.formed c.if-not-term.true) at (surveyed a.users a.roles a.words.now (sym c.if-not-in_layout.ensures) a.user a.held _ (sym c.in_ok-term.was ∙ c.analyse.ensures))
 
 pub returns : goal.returns
 returns c =
     let a = c.args in
-    let t = c.analyse-term in
-    (λ i. record { accepted = true; units = (t.ensures i).units; met = (t.ensures i).noted })
-    ∙ accepted a.user a.held (decode a.words.now) (ap (λ (t : Analysis). t.formed) (sym t.ensures) ∙ not-false t.result.formed c.if-not-term.false)
-    ∙ late a.users a.roles a.words.now a.user a.held (sym c.in_layout.ensures ∙ c.if-not-in_layout.false)
+    rw (not-false c.in_ok-term.term.formed c.if-not-term.false) at (surveyed a.users a.roles a.words.now (sym c.if-not-in_layout.ensures) a.user a.held _ (sym c.in_ok-term.was ∙ c.analyse.ensures))

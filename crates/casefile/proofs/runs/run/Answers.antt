@@ -7,9 +7,10 @@ use Rattle.monitor.specs.Monitors.{well_formed}
 use Rattle.monitor.specs.Events.{event_monitor}
 use Rattle.monitor.specs.Runs.{run, taken}
 use Rattle.monitor.proofs.Formed.{twelve_at_most}
-use Rattle.casefile.specs.Cases.{offset, part_length, wide, wides, event_words, case_ok}
+use Rattle.casefile.specs.declared.pairs.Part.{Part}
+use Rattle.casefile.specs.Cases.{wide, wides, event_words, case_ok}
 use Rattle.casefile.specs.Texts.{taken_text, case_run, step_lines, run_text}
-use Rattle.casefile.specs.Private.{HasRoom, Put, CanRun}
+use Rattle.casefile.specs.Private.{part_at, HasRoom, Put, CanRun}
 use Rattle.casefile.proofs.Laying.{laid}
 use Rattle.casefile.proofs.Decimals.{taken-length}
 use Rattle.casefile.proofs.Writing.{put-behind, room-behind, put-length}
@@ -18,18 +19,24 @@ use Rattle.casefile.proofs.Taken.{taken-is-final}
 use Rattle.casefile.proofs.runs.run.Goals as goal
 
 -- ── the case's events ──
-module _ (b : List ℕ) (ok : So (case_ok b)) (from n : ℕ) (begins : from ≡ offset b 2) (long : n ≡ part_length b 2) where
-  few : n / 4 ≤ 256
-  few = let l = laid b ok in omega arith
+module _ (b : List ℕ) (ok : So (case_ok b)) (events : Part) (part : events ≡ part_at b 2) where
+  begins : events.offset ≡ (part_at b 2).offset
+  begins = ap (λ (p : Part). p.offset) part
 
-  inside : from + n / 4 * 4 ≤ length b
-  inside = let l = laid b ok in omega arith
+  long : events.length ≡ (part_at b 2).length
+  long = ap (λ (p : Part). p.length) part
 
-  all-events : (i : ℕ) → i ≡ n / 4 → wides b from i ≡ event_words b
-  all-events i last = ap₂ (λ (k m : ℕ). wides b k m) begins (last ∙ ap (λ (m : ℕ). m / 4) long)
+  few : events.length / 4 ≤ 256
+  few = let l = laid b ok in let n = long in omega arith
+
+  inside : events.offset + events.length / 4 * 4 ≤ length b
+  inside = let l = laid b ok in let n = long in let k = begins in omega arith
+
+  all-events : wides b events.offset (events.length / 4) ≡ event_words b
+  all-events = ap (λ (p : Part). wides b p.offset (p.length / 4)) part
 
 -- ── after i of the events from a place of the bytes on: the lines so far, and the room that they leave ──
-module _ (m : Monitor) (b out : List ℕ) (can : CanRun m b out) (from i : ℕ) (few : i ≤ 256) where
+module _ (m : Monitor) (b : List ℕ) (events : Part) (out : List ℕ) (can : CanRun m b events out) (from i : ℕ) (few : i ≤ 256) where
   abbrev text : List ℕ
   text = lines_of m 1 (wides b from i)
 
@@ -54,25 +61,19 @@ module _ (m : Monitor) (b out : List ℕ) (can : CanRun m b out) (from i : ℕ) 
 taken-short : (j : Monitor) → So (well_formed j) → length (taken_text j.instance.taken) ≤ 9
 taken-short j h = let n = twelve_at_most j h in taken-length j.instance.taken (omega arith)
 
-pub offset_of-from-requires : goal.offset_of-from-requires
-offset_of-from-requires c = let l = laid c.args.bytes.now c.requires.case in omega arith
-
-pub length_of-count-requires : goal.length_of-count-requires
-length_of-count-requires c = let l = laid c.args.bytes.now c.requires.case in omega arith
-
 pub loop-i-init : goal.loop-i-init
 unfolding run step_lines
 loop-i-init c = record {
-  within = omega arith;
   size = refl;
   is_formed = c.requires.is_formed;
   same = refl;
   lines = record { place = refl; holds = refl };
 }
 
-pub wide_at-word-requires : goal.wide_at-word-requires
-wide_at-word-requires c =
-    let n = inside c.args.bytes.now c.requires.case c.offset_of-from.result c.length_of-count.result c.offset_of-from.ensures.0 c.length_of-count.ensures.0 in
+pub read-word-requires : goal.read-word-requires
+read-word-requires c =
+    let a = c.args in
+    let n = inside a.bytes.now c.requires.case a.events c.requires.part in
     omega arith
 
 pub step-stepped-requires : goal.step-stepped-requires
@@ -80,13 +81,12 @@ step-stepped-requires c =
     let a = c.args in
     let b : List ℕ = a.bytes.now in
     let l = c.loop-i in
-    let from = c.offset_of-from.result in
-    let most = few b c.requires.case from c.length_of-count.result c.offset_of-from.ensures.0 c.length_of-count.ensures.0 in
+    let most = few b c.requires.case a.events c.requires.part in
     let k : l.i ≤ 256 = omega arith in
     record {
       is_formed = l.invariant.is_formed;
       size = l.invariant.size;
-      fits = omega (arith, as_long a.monitor b a.out.now c.requires from l.i k l.invariant.lines, short a.monitor b a.out.now c.requires from l.i k, l.invariant.lines.place, c.requires.fits);
+      fits = omega (arith, as_long a.monitor b a.events a.out.now c.requires c.from-from.result l.i k l.invariant.lines, short a.monitor b a.events a.out.now c.requires c.from-from.result l.i k, l.invariant.lines.place, c.requires.fits);
     }
 
 pub loop-i-preserved : goal.loop-i-preserved
@@ -95,18 +95,17 @@ loop-i-preserved c =
     let b : List ℕ = a.bytes.now in
     let l = c.loop-i in
     let s = c.step-stepped in
-    let w = c.wide_at-word.result in
-    let from = c.offset_of-from.result in
-    let most = few b c.requires.case from c.length_of-count.result c.offset_of-from.ensures.0 c.length_of-count.ensures.0 in
+    let w = c.read-word.result in
+    let from = c.from-from.result in
+    let most = few b c.requires.case a.events c.requires.part in
     let k : l.i ≤ 256 = omega arith in
     let line : List ℕ = line_of l.current (l.i + 1) w in
     record {
-      within = omega arith;
       size = s.auto.workspace ∙ l.invariant.size;
       is_formed = s.ensures.is_formed;
-      same = s.ensures.same ∙ next-monitor a.monitor b a.out.now c.requires from l.i k l.current l.invariant.same w c.wide_at-word.ensures;
-      lines = rw (grown a.monitor b a.out.now c.requires from l.i k l.current l.invariant.same w c.wide_at-word.ensures) at
-          (put-behind l.invariant.lines line (fits a.monitor b a.out.now c.requires from l.i k line (line-short l.current (l.i + 1) w)) s.ensures.line);
+      same = s.ensures.same ∙ next-monitor a.monitor b a.events a.out.now c.requires from l.i k l.current l.invariant.same w c.read-word.ensures;
+      lines = rw (grown a.monitor b a.events a.out.now c.requires from l.i k l.current l.invariant.same w c.read-word.ensures) at
+          (put-behind l.invariant.lines line (fits a.monitor b a.events a.out.now c.requires from l.i k line (line-short l.current (l.i + 1) w)) s.ensures.line);
     }
 
 pub put_taken-requires : goal.put_taken-requires
@@ -114,11 +113,10 @@ put_taken-requires c =
     let a = c.args in
     let b : List ℕ = a.bytes.now in
     let l = c.loop-i in
-    let from = c.offset_of-from.result in
-    let most = few b c.requires.case from c.length_of-count.result c.offset_of-from.ensures.0 c.length_of-count.ensures.0 in
+    let most = few b c.requires.case a.events c.requires.part in
     let k : l.i ≤ 256 = omega arith in
     let t : List ℕ = taken_text l.current.instance.taken in
-    room-behind l.invariant.lines t (fits a.monitor b a.out.now c.requires from l.i k t (taken-short l.current l.invariant.is_formed))
+    room-behind l.invariant.lines t (fits a.monitor b a.events a.out.now c.requires c.from-from.result l.i k t (taken-short l.current l.invariant.is_formed))
 
 pub returns : goal.returns
 unfolding run_text
@@ -126,11 +124,12 @@ returns c =
     let a = c.args in
     let b : List ℕ = a.bytes.now in
     let l = c.loop-i in
-    let from = c.offset_of-from.result in
-    let most = few b c.requires.case from c.length_of-count.result c.offset_of-from.ensures.0 c.length_of-count.ensures.0 in
+    let from = c.from-from.result in
+    let most = few b c.requires.case a.events c.requires.part in
     let k : l.i ≤ 256 = omega arith in
-    let last : l.i ≡ c.length_of-count.result / 4 = omega arith in
+    let last : l.i ≡ a.events.length / 4 = omega arith in
+    let all : wides b from l.i ≡ event_words b = ap₂ (λ (k n : ℕ). wides b k n) c.from-from.ensures last ∙ all-events b c.requires.case a.events c.requires.part in
     let n : l.current.instance.taken ≡ taken (case_run a.monitor (wides b from l.i)) = ap (λ (j : Monitor). j.instance.taken) l.invariant.same ∙ sym (taken-is-final a.monitor (wides b from l.i) (λ k. 8192) c.requires.none) in
     let t : List ℕ = taken_text l.current.instance.taken in
-    rw (← all-events b c.requires.case from c.length_of-count.result c.offset_of-from.ensures.0 c.length_of-count.ensures.0 l.i last, ← n)
-    (put-behind l.invariant.lines t (fits a.monitor b a.out.now c.requires from l.i k t (taken-short l.current l.invariant.is_formed)) c.put_taken.ensures)
+    rw (← all, ← n)
+    (put-behind l.invariant.lines t (fits a.monitor b a.events a.out.now c.requires from l.i k t (taken-short l.current l.invariant.is_formed)) c.put_taken.ensures)

@@ -1,5 +1,5 @@
 -- The loop keeps that the output holds the lines of the first i events, and that the monitor is the one after them.
-use Rattle.std.proofs.Common.{◌≡◌, ◌-◌, ◌≤◌, length}
+use Rattle.std.proofs.Common.{◌≡◌, length}
 use Rattle.std.proofs.Math.Bool.{So}
 use Rattle.monitor.specs.Monitors.{well_formed}
 use Rattle.casefile.specs.Cases.{wides}
@@ -9,12 +9,8 @@ use Rattle.casefile.proofs.runs.run.Given as goal
 
 abbrev pub invariant-loop-i : goal.invariant-loop-i
 invariant-loop-i l = record {
-  within : l.i ≤ l.count;
   size : length l.workspace ≡ 8192;
   is_formed : So (well_formed l.current);
   same : l.current ≡ after l.fn.monitor (wides l.bytes l.from l.i);
   lines : Put l.fn.out 0 (lines_of l.fn.monitor 1 (wides l.bytes l.from l.i)) l.at l.out;
 }
-
-abbrev pub decreases-loop-i : goal.decreases-loop-i
-decreases-loop-i l = l.count - l.i

@@ -30,20 +30,18 @@ module _ (c : Configuration) (a : ℕ) (everyone : Bool) (n : ℕ) where
 pub loop-user-preserved : goal.loop-user-preserved
 loop-user-preserved c =
     let a = c.args in
-    let n = c.loop-user.user in (
-      elim c.if-permits.branch [
-        | then-permits w ↦ w.found-is ∙ w.with-found.ensures ∙ ap (λ (k : Candidates). with_candidate k n) c.loop-user.invariant.0
-            ∙ with_next a.self a.action a.everyone n (sym c.permits.ensures ∙ w.if-permits.true)
-        | else-permits w ↦ w.found-is ∙ c.loop-user.invariant.0
-            ∙ without-next a.self a.action a.everyone n (sym c.permits.ensures ∙ w.if-permits.false)
-      ],
-      omega arith,
-    )
+    let n = c.loop-user.user in
+    elim c.if-permits.branch [
+      | then-permits w ↦ w.found-is ∙ w.with-found.ensures ∙ ap (λ (k : Candidates). with_candidate k n) c.loop-user.invariant
+          ∙ with_next a.self a.action a.everyone n (sym c.permits.ensures ∙ w.if-permits.true)
+      | else-permits w ↦ w.found-is ∙ c.loop-user.invariant
+          ∙ without-next a.self a.action a.everyone n (sym c.permits.ensures ∙ w.if-permits.false)
+    ]
 
 pub returns : goal.returns
 unfolding permitted_users
 returns c =
     let a = c.args in
     let l = c.loop-user in
-    let e : l.user ≡ 16 = omega (arith, l.invariant.1) in
-    l.invariant.0 ∙ ap (λ (n : ℕ). gathered (those a.self a.action a.everyone n)) e
+    let e : l.user ≡ 16 = omega arith in
+    l.invariant ∙ ap (λ (n : ℕ). gathered (those a.self a.action a.everyone n)) e

@@ -5,8 +5,8 @@ use Rattle.instance.proofs.Instance.is_final.Goals as goal
 
 pub returns-then-not-is_given : goal.returns-then-not-is_given
 unfolding is_final
-returns-then-not-is_given c = rw (sym c.is_given.ensures ∙ c.if-not-is_given.true)
+returns-then-not-is_given c = rw (sym c.is_given.ensures, c.if-not-is_given.true)
 
-pub returns : goal.returns
+pub returns-else-not-is_given : goal.returns-else-not-is_given
 unfolding is_final
-returns c = rw (sym c.is_given.ensures ∙ c.if-not-is_given.false) c.is_final.ensures
+returns-else-not-is_given c = rw (sym c.is_given.ensures ∙ c.if-not-is_given.false) c.is_final.ensures

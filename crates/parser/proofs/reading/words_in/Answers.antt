@@ -1,20 +1,14 @@
 -- What is read of the text as a whole.
-use Rattle.parser.proofs.Wholes.{whole_none, whole_other, whole_term, no_words}
+use Rattle.parser.proofs.Wholes.{whole_none, whole_other, whole_term}
 use Rattle.parser.proofs.reading.words_in.Goals as goal
 
-pub returns-then-t-eq0 : goal.returns-then-t-eq0
-returns-then-t-eq0 c =
-    let t = c.args.text.now in
-    let r = c.read_term-t in
-    no_words t r.new.out (whole_none t c.args.words.now r.new.out r.result r.ensures c.requires c.if-t-eq0.true)
+pub returns-in_err-term : goal.returns-in_err-term
+returns-in_err-term c =
+    rw c.from_residual.ensures (whole_none c.args.text.now c.args.words.now c.read_term.new.out c.requires c.in_err-term.ensures.value)
 
-pub returns-then-t-text : goal.returns-then-t-text
-returns-then-t-text c =
-    let t = c.args.text.now in
-    let r = c.read_term-t in
-    no_words t r.new.out (whole_other t c.args.words.now r.new.out r.result r.ensures c.requires c.if-t-eq0.false c.if-t-text.true)
+pub returns-then-term-text : goal.returns-then-term-text
+returns-then-term-text c =
+    whole_other c.args.text.now c.args.words.now c.read_term.new.out c.requires c.in_ok-term.term c.in_ok-term.ensures.value c.if-term-text.true
 
 pub returns : goal.returns
-returns c =
-    let r = c.read_term-t in
-    whole_term c.args.text.now c.args.words.now r.new.out r.result r.ensures c.requires c.if-t-eq0.false c.if-t-text.false
+returns c = whole_term c.args.text.now c.args.words.now c.read_term.new.out c.requires c.in_ok-term.term c.in_ok-term.ensures.value c.if-term-text.false

@@ -1,26 +1,31 @@
--- The word at i is in the layout where it is in the room from the least word of its kind on.
-use Rattle.std.proofs.Common.{◌≡◌, ℕ, suc, ◌+◌, ◌%◌, ◌^◌, ltb, List, get_or, drop, sym, ap, ◌∙◌, add-one, arith, lt-ltb}
-use Rattle.soda.specs.Lists.{first_failing}
-use Rattle.soda.proofs.Lists.{failing_next}
+-- The first word out of its room is the first that is not in the layout.
+use Rattle.std.proofs.Common.{◌≡◌, ℕ, ◌<◌, Bool, false, true, not, ltb, cond, List, length, Option as Maybe, Some, None, IfSome, is_none, refl, sym, ◌∙◌, arith, rules, tests, one-add, lt-ltb, le-ltb, eqb-true}
+use Rattle.std.specs.List.{position_or_len}
+use Rattle.std.proofs.lemmas.Iterator.{YieldsList-from_slice}
+use Rattle.std.proofs.lemmas.Iterator.Search.{position_from_yields_List}
+use Rattle.std.proofs.lemmas.List.Recursion.{is_position_or_len}
+use Rattle.soda.specs.Lists.{all, first_failing}
+use Rattle.soda.proofs.Bools.{by_test}
+use Rattle.soda.proofs.Lists.{one_fails, none_fails}
 use Rattle.policy.specs.Words.{word_ok}
-use Rattle.policy.specs.Private.{least_words, rooms_of}
-use Rattle.policy.proofs.Layouts.{in_room}
 use Rattle.policy.proofs.words.bad_word.Goals as goal
 
-pub loop-i-preserved : goal.loop-i-preserved
-loop-i-preserved c =
+-- the first word that fails a test is the first that passes its opposite
+first-position : (f : ℕ → Bool) (ws : List ℕ) → first_failing f ws ≡ position_or_len (λ w. not (f w)) ws
+first-position f = is_position_or_len (first_failing f) (λ w. not (f w)) refl λ w ws. by_test (f w) (λ e. rw e (sym (one-add (first_failing f ws)))) λ e. rw e
+
+-- so what `position` finds says whether one fails, and where
+found : (f : ℕ → Bool) (ws : List ℕ) (o : Maybe ℕ)
+    → o ≡ cond (ltb (position_or_len (λ w. not (f w)) ws) (length ws)) (Some (position_or_len (λ w. not (f w)) ws)) None
+    → (is_none o ≡ all f ws) × IfSome o (λ p. p ≡ first_failing f ws) × IfSome o (λ p. p < length ws)
+found f ws o e = rw (e, ← first-position f ws) (by_test (all f ws)
+    (λ t. let z : ltb (first_failing f ws) (length ws) ≡ false = le-ltb _ _ (let q = eqb-true _ _ (sym (none_fails ℕ f ws) ∙ t) in omega arith) in rw (t, z) (refl, tt, tt))
+    λ t. let z : ltb (first_failing f ws) (length ws) ≡ true = lt-ltb _ _ (one_fails f ws t) in rw (t, z) (refl, refl, one_fails f ws t))
+
+pub returns : goal.returns
+returns c =
     let a = c.args in
-    let ws = a.words.now in
-    let n = c.loop-i.i in
-    let w = get_or ws n 0 in
-    let r = c.wrapping_sub_u32.result in
-    let k = c.kind_of-k.ensures in
-    let tested : ltb r (get_or c.rooms-room.result c.kind_of-k.result 0) ≡ word_ok a.users a.roles w =
-    ap (λ (l : List ℕ). ltb r (get_or l c.kind_of-k.result 0)) c.rooms-room.ensures
-    ∙ ap (λ (k : ℕ). ltb r (get_or (rooms_of a.users a.roles) k 0)) k
-    ∙ in_room a.users a.roles c.requires (omega arith) w r (omega arith)
-    (omega (arith, c.if-k-gt-APART.false)) (ap (λ (k : ℕ). (r + get_or least_words k 0) % 2 ^ 32) (sym k) ∙ c.wrapping_sub_u32.ensures.value) in
-    let next = failing_next (word_ok a.users a.roles) 0 ws n (omega arith) (sym tested ∙ lt-ltb _ _ c.if-room-k.false) in
-    let s : first_failing (word_ok a.users a.roles) (drop (suc n) ws) ≡ first_failing (word_ok a.users a.roles) (drop (n + 1) ws) =
-    ap (λ (k : ℕ). first_failing (word_ok a.users a.roles) (drop k ws)) (sym (add-one n)) in
-    (omega arith, omega (arith, c.loop-i.invariant.1, next, s))
+    let h = found (word_ok a.users a.roles) a.words.now _ (
+    position_from_yields_List (λ w. not (word_ok a.users a.roles w)) _ _ _ c.position.ensures.ran
+    (YieldsList-from_slice a.words.now cc) (λ x b q k. search (rules, tests))) in
+    record { none = h.0; place = h.1; inside = h.2 }

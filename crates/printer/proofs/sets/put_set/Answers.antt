@@ -4,7 +4,7 @@ use Prim.Native.Char.{code}
 use lib.Bits.{bit_and, and_mask}
 use lib.ListN.{set}
 use Rattle.text.specs.Texts.{ascii, numeral}
-use Rattle.text.proofs.Putting.{Begun, begin, part_room, part_put, byte_put, all-put}
+use Rattle.text.proofs.Putting.{Begun, part_room, part_put, byte_put, all-put}
 use Rattle.printer.proofs.Listing.{listed_from, listed-skips, listed_names, listed-ends}
 use Rattle.printer.proofs.sets.put_set.Goals as goal
 use Rattle.printer.proofs.sets.put_set.Goals.{then-mask-user-eq1, else-mask-user-eq1}
@@ -23,27 +23,22 @@ module _ {whole out new : List ℕ} {n : ℕ} (m sign u : ℕ) (g : Begun whole 
   last : 16 ≤ u → Begun whole out n new (ascii "}")
   last h = rw (listed-ends m sign u h) at g
 
-pub loop-user-init : goal.loop-user-init
-loop-user-init c = (omega arith, begin c.requires)
-
 pub put_numeral-n-requires : goal.put_numeral-n-requires
 put_numeral-n-requires c =
     let l = c.loop-user in
     let h : l.user < 16 = omega arith in
-    (h, part_room (numeral l.user) (listed_from c.args.mask (code ",") (l.user + 1)) (signed c.args.mask l.sign l.user l.invariant.1 h c.if-mask-user-eq1.true))
+    (h, part_room (numeral l.user) (listed_from c.args.mask (code ",") (l.user + 1)) (signed c.args.mask l.sign l.user l.invariant h c.if-mask-user-eq1.true))
 
 pub loop-user-preserved : goal.loop-user-preserved
 loop-user-preserved c =
     let l = c.loop-user in
-    let h : l.user < 16 = omega arith in (
-      omega arith,
-      elim c.if-mask-user-eq1.branch [
-        | then-mask-user-eq1 w ↦ rw (w.out-is, w.n-is, w.sign-is)
-            (part_put (numeral l.user) (listed_from c.args.mask (code ",") (l.user + 1))
-            (signed c.args.mask l.sign l.user l.invariant.1 h w.if-mask-user-eq1.true) w.put_numeral-n.ensures)
-        | else-mask-user-eq1 w ↦ rw (w.out-is, w.n-is, w.sign-is) (skipped c.args.mask l.sign l.user l.invariant.1 h w.if-mask-user-eq1.false)
-      ],
-    )
+    let h : l.user < 16 = omega arith in
+    elim c.if-mask-user-eq1.branch [
+      | then-mask-user-eq1 w ↦ rw (w.out-is, w.n-is, w.sign-is)
+          (part_put (numeral l.user) (listed_from c.args.mask (code ",") (l.user + 1))
+          (signed c.args.mask l.sign l.user l.invariant h w.if-mask-user-eq1.true) w.put_numeral-n.ensures)
+      | else-mask-user-eq1 w ↦ rw (w.out-is, w.n-is, w.sign-is) (skipped c.args.mask l.sign l.user l.invariant h w.if-mask-user-eq1.false)
+    ]
 
 pub returns : goal.returns
-returns c = let l = c.loop-user in all-put (byte_put (last c.args.mask l.sign l.user l.invariant.1 (omega arith)))
+returns c = let l = c.loop-user in all-put (byte_put (last c.args.mask l.sign l.user l.invariant (omega arith)))

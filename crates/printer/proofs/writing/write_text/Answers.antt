@@ -1,19 +1,18 @@
 -- The reader's answer decides: a refusal is passed on, and an accepted policy is the words of one term, whose text the array has room for.
 use Rattle.std.proofs.Common.{◌≡◌, ℕ, ◌≤◌, ◌<◌, List, [], length, take, drop, replicate, refl, sym, ap, ◌∙◌, append-nil, arith}
+use Rattle.std.proofs.lemmas.Result.{err_from_is_err_and}
 use lib.Seq.{length-take-le, take_at}
 use Rattle.soda.specs.Terms.{Term}
 use Rattle.soda.specs.Words.{encode}
 use Rattle.policy.specs.Codes.{OUTPUT}
 use Rattle.policy.specs.Accepted.{IsPolicy}
-use Rattle.policy.specs.Reading.{code_read, read_policy}
-use Rattle.policy.specs.declared.Code.TheVariants.{Plain}
-use Rattle.policy.specs.declared.PolicyRead.TheVariants.{Accepted}
+use Rattle.policy.specs.Codes.{Plain}
+use Rattle.policy.specs.Reading.{Accepted, read_policy}
 use Rattle.policy.proofs.Accepted.{read_is-encode, decode-is-term}
 use Rattle.text.specs.Texts.{policy_text}
 use Rattle.text.specs.Writing.{text_of, write_refusals, write_answer, write_out}
 use Rattle.text.specs.Puts.{Put}
-use Rattle.text.specs.declared.Converted.{Converted}
-use Rattle.text.specs.declared.Converted.TheVariants.{Written, Refused}
+use Rattle.text.specs.Reading.{Converted, Written, Refused}
 use Rattle.text.proofs.Putting.{put-length}
 use Rattle.text.proofs.Lengths.{text-fits}
 use Rattle.text.proofs.Policies.{policy_named}
@@ -82,66 +81,38 @@ module _ (users roles : ℕ) (ws out : List ℕ) where
           (ap Written counts ∙ q.0, d.holds ∙ rw front q.1)
 
 -- ── a refused policy ──
-pub returns-in_default-clause-value : goal.returns-in_default-clause-value
-returns-in_default-clause-value c =
+pub returns-in_err-read : goal.returns-in_err-read
+returns-in_err-read c =
     let a = c.args in
-    let r = c.in_default in
-    let q = as_asked a.users a.roles a.words.now a.out.now
-    (refused a.users a.roles a.words.now (text_of a.words.now) a.out.now r.field-0 (sym c.read-answer.ensures ∙ r.is)) in
-    ap Refused (c.code_of.ensures ∙ ap code_read r.is) ∙ q.0
-
-pub returns-in_default-clause-out_after : goal.returns-in_default-clause-out_after
-returns-in_default-clause-out_after c =
-    let a = c.args in
-    let r = c.in_default in
-    let q = as_asked a.users a.roles a.words.now a.out.now
-    (refused a.users a.roles a.words.now (text_of a.words.now) a.out.now r.field-0 (sym c.read-answer.ensures ∙ r.is)) in
-    q.1
+    let q = as_asked a.users a.roles a.words.now a.out.now (refused a.users a.roles a.words.now (text_of a.words.now) a.out.now _ (sym c.in_err-read.ensures)) in
+    let p = err_from_is_err_and c.from_residual.result c.from_residual.ensures.1 in
+    record { value = rw (p.1, p.2) q.0; out_after = q.1 }
 
 -- ── an accepted policy ──
 pub put_text-n-requires : goal.put_text-n-requires
-put_text-n-requires c =
-    let a = c.args in
-    spelt a.users a.roles a.words.now a.out.now c.in-Accepted.words c.in-Accepted.units (sym c.read-answer.ensures ∙ c.in-Accepted.is)
+put_text-n-requires c = let a = c.args in spelt a.users a.roles a.words.now a.out.now _ _ (sym c.in_ok-read.ensures)
 
-pub returns-then-out-n-clause-value : goal.returns-then-out-n-clause-value
-returns-then-out-n-clause-value c =
+pub returns-then-out-n : goal.returns-then-out-n
+returns-then-out-n c =
     let a = c.args in
-    let q = too_long a.users a.roles a.words.now a.out.now c.in-Accepted.words c.in-Accepted.units (sym c.read-answer.ensures ∙ c.in-Accepted.is)
-    (replicate 767 0) c.put_text-n.new.out refl c.put_text-n.ensures c.if-out-n.true in
-    q.0
-
-pub returns-then-out-n-clause-out_after : goal.returns-then-out-n-clause-out_after
-returns-then-out-n-clause-out_after c =
-    let a = c.args in
-    let q = too_long a.users a.roles a.words.now a.out.now c.in-Accepted.words c.in-Accepted.units (sym c.read-answer.ensures ∙ c.in-Accepted.is)
-    (replicate 767 0) c.put_text-n.new.out refl c.put_text-n.ensures c.if-out-n.true in
-    q.1
+    let q = too_long a.users a.roles a.words.now a.out.now _ _ (sym c.in_ok-read.ensures) (replicate 767 0) c.put_text-n.new.out refl c.put_text-n.ensures
+    c.if-out-n.true in
+    record { value = q.0; out_after = q.1 }
 
 pub slice_bounds-text-end : goal.slice_bounds-text-end
 slice_bounds-text-end c =
     let a = c.args in
-    inside a.users a.roles a.words.now a.out.now c.in-Accepted.words c.in-Accepted.units (sym c.read-answer.ensures ∙ c.in-Accepted.is)
-    (replicate 767 0) c.put_text-n.new.out refl c.put_text-n.ensures
+    inside a.users a.roles a.words.now a.out.now _ _ (sym c.in_ok-read.ensures) (replicate 767 0) c.put_text-n.new.out refl c.put_text-n.ensures
 
 pub slice_bounds-copy-end : goal.slice_bounds-copy-end
 slice_bounds-copy-end c =
     let a = c.args in
-    sym
-    (length-take-le c.put_text-n.result c.put_text-n.new.out
-    (inside a.users a.roles a.words.now a.out.now c.in-Accepted.words c.in-Accepted.units (sym c.read-answer.ensures ∙ c.in-Accepted.is)
-    (replicate 767 0) c.put_text-n.new.out refl c.put_text-n.ensures))
+    let h = inside a.users a.roles a.words.now a.out.now _ _ (sym c.in_ok-read.ensures) (replicate 767 0) c.put_text-n.new.out refl c.put_text-n.ensures in
+    sym (length-take-le c.put_text-n.result c.put_text-n.new.out h)
 
-pub returns-clause-value : goal.returns-clause-value
-returns-clause-value c =
+pub returns : goal.returns
+returns c =
     let a = c.args in
-    let q = copied a.users a.roles a.words.now a.out.now c.in-Accepted.words c.in-Accepted.units (sym c.read-answer.ensures ∙ c.in-Accepted.is)
-    (replicate 767 0) c.put_text-n.new.out refl c.put_text-n.ensures c.if-out-n.false c.copy.ensures in
-    q.0
-
-pub returns-clause-out_after : goal.returns-clause-out_after
-returns-clause-out_after c =
-    let a = c.args in
-    let q = copied a.users a.roles a.words.now a.out.now c.in-Accepted.words c.in-Accepted.units (sym c.read-answer.ensures ∙ c.in-Accepted.is)
-    (replicate 767 0) c.put_text-n.new.out refl c.put_text-n.ensures c.if-out-n.false c.copy.ensures in
-    q.1
+    let q = copied a.users a.roles a.words.now a.out.now _ _ (sym c.in_ok-read.ensures) (replicate 767 0) c.put_text-n.new.out refl c.put_text-n.ensures
+    c.if-out-n.false c.copy.ensures in
+    record { value = q.0; out_after = q.1 }

@@ -1,35 +1,33 @@
--- What the stack is of the words read so far says what is found of all.
-use Rattle.std.proofs.Common.{◌≡◌, ◌-◌, sym, ap, arith}
+-- What the row is of the words read so far says what is found of all.
+use Rattle.std.proofs.Common.{sym, ap, ◌∙◌}
 use Rattle.units.specs.Private.{analysis_in}
 use Rattle.units.proofs.Stacks.{begin, stops, goes_on, more, one}
 use Rattle.units.proofs.terms.analyse.Goals as goal
 
-pub loop-i-init : goal.loop-i-init
-loop-i-init c = let a = c.args in (omega arith, begin a.user a.held a.words.now)
-
-pub returns-then-s-eq0 : goal.returns-then-s-eq0
-returns-then-s-eq0 c =
+pub loop-word-init : goal.loop-word-init
+loop-word-init c =
     let a = c.args in
-    let at = c.loop-i in
-    sym (ap (analysis_in a.user a.held) (stops a.user a.held a.words.now at.invariant.1 (at.i - 1) (omega arith) c.requires
-    c.step-s.result c.step-s.ensures c.if-s-eq0.true))
+    rw (c.into_iter-word-iterator.ensures.into_iter_gives, c.rev-word-items.ensures.source, c.iter.ensures.rest) (begin a.user a.held a.words.now)
 
-pub loop-i-preserved : goal.loop-i-preserved
-loop-i-preserved c =
+pub returns-in_err-row : goal.returns-in_err-row
+returns-in_err-row c =
     let a = c.args in
-    let at = c.loop-i in (
-      omega arith,
-      goes_on a.user a.held a.words.now at.invariant.1 (at.i - 1) (omega arith) c.requires c.step-s.result c.step-s.ensures c.if-s-eq0.false,
-    )
+    c.from_residual.ensures
+    ∙ sym (ap (analysis_in a.user a.held) (stops a.user a.held a.words.now c.loop-word.invariant _ c.in-Some.field-0.now c.in-Some.ensures.steps c.requires
+    c.step.result c.step.ensures (c.in_err-row.was)))
 
-pub returns-then-s-ne1 : goal.returns-then-s-ne1
-returns-then-s-ne1 c =
+pub loop-word-preserved : goal.loop-word-preserved
+loop-word-preserved c =
     let a = c.args in
-    let z : c.loop-i.i ≡ 0 = omega arith in
-    sym (ap (analysis_in a.user a.held) (more a.user a.held a.words.now (rw z at c.loop-i.invariant.1) c.if-s-ne1.true))
+    goes_on a.user a.held a.words.now c.loop-word.invariant _ c.in-Some.field-0.now c.in-Some.ensures.steps c.requires c.step.result c.step.ensures
+    c.in_ok-row.row (c.in_ok-row.was)
+
+pub returns-then-row-ne1 : goal.returns-then-row-ne1
+returns-then-row-ne1 c =
+    let a = c.args in
+    sym (ap (analysis_in a.user a.held) (more a.user a.held a.words.now c.loop-word.invariant c.in-None.ensures.steps.0 c.if-row-ne1.true))
 
 pub returns : goal.returns
 returns c =
     let a = c.args in
-    let z : c.loop-i.i ≡ 0 = omega arith in
-    one a.user a.held a.words.now (rw z at c.loop-i.invariant.1) c.if-s-ne1.false
+    one a.user a.held a.words.now c.loop-word.invariant c.in-None.ensures.steps.0 c.if-row-ne1.false

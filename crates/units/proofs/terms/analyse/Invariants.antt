@@ -1,10 +1,8 @@
--- The words from i on are a row of terms, and the stack is what is kept of it.
-use Rattle.std.proofs.Common.{◌≤◌, length}
+-- The words that are left stand in front; those behind are a row of terms, and `row` is what is kept of it.
+use Rattle.std.specs.Iterator.Adapters.{rev_source}
+use Rattle.std.specs.Slice.Iter.{iter_rest}
 use Rattle.units.proofs.Stacks.{Read}
 use Rattle.units.proofs.terms.analyse.Given as goal
 
-abbrev pub invariant-loop-i : goal.invariant-loop-i
-invariant-loop-i l = (l.i ≤ length l.words) × Read l.user l.held l.words l.i l.s
-
-abbrev pub decreases-loop-i : goal.decreases-loop-i
-decreases-loop-i l = l.i
+abbrev pub invariant-loop-word : goal.invariant-loop-word
+invariant-loop-word l = Read l.user l.held l.words (iter_rest (rev_source l.word-iterator)) l.row

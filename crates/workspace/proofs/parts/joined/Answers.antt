@@ -1,42 +1,57 @@
 -- The first part is t's first action alone; a turn's two parts are no larger than s.
-use Rattle.std.proofs.Common.{ℕ, ◌+◌, ◌-◌, ◌*◌, bit_and, bit_or, refl, arith}
-use Rattle.workspace.specs.Private.{matched, PartAt}
-use Rattle.workspace.proofs.Submask.{lowest}
-use Rattle.workspace.proofs.Walk.{begin, next, done, from_nothing, gathered_twice}
+use Rattle.std.proofs.Common.{ℕ, ◌≡◌, ◌+◌, ◌-◌, ◌≤◌, ◌<◌, List, length, take, drop, refl, ap, ◌∙◌, bit_and, arith}
+use lib.Bits.{and_self}
+use lib.Seq.{get_or-drop}
+use Rattle.std.proofs.lemmas.List.{take_rest}
+use Rattle.workspace.specs.declared.entry.Entry.{Entry}
+use Rattle.workspace.specs.Private.{Next, entry_at}
+use Rattle.workspace.proofs.Submask.{Within, within_le, and-within, lowest}
+use Rattle.workspace.proofs.Walk.{begin, next, done, next_le, gathered, gathered_twice}
 use Rattle.workspace.proofs.parts.joined.Goals as goal
 
 -- t without its first action
 abbrev others : ℕ → ℕ
 others t = bit_and t (t - 1)
 
--- the place of a part, of some sets of t's actions
-part_at : (s x : ℕ) → PartAt (3 * s) (3 * x) s x
-part_at s x = record { is_whole = refl; is_part = refl }
+-- a turn's second part is no larger than s
+more_le : (s t a : ℕ) → Next s t → 0 < t → Within a (others t) → a + (t - others t) ≤ s
+more_le s t a n h w = let l = lowest t h in omega (arith, next_le n, l.less, within_le a (others t) w)
 
--- the place of the part with the first action
-more_at : (s a x : ℕ) → PartAt (3 * s) (3 * a + 3 * x) s (a + x)
-more_at s a x = record { is_whole = refl; is_part = omega arith }
+-- the sets from one on
+later : (sets : List Entry) (low k : ℕ) → entry_at (take (length sets - low) (drop low sets)) k ≡ entry_at sets (low + k)
+later sets low k = ap (λ l. entry_at l k) (take_rest sets low) ∙ get_or-drop low sets k _
 
 pub loop-a-init : goal.loop-a-init
-loop-a-init c =
+loop-a-init g c =
     let a = c.args in
-    let holds = matched a.sets.now a.s in
-    let x : ℕ = a.t - others a.t in
-    let f = c.found_at-found.result in
-    begin holds a.s a.t (others a.t) c.requires.3 (lowest a.t c.requires.0) (bit_or f.ahead f.back)
-    (from_nothing holds a.s x f.ahead f.back (c.found_at-found.ensures a.s x (part_at a.s x)))
+    let n = c.requires.next in
+    let l = lowest a.t c.requires.some in
+    let first : a.t - others a.t ≤ a.s = omega (arith, next_le n) in (
+      and_self (others a.t),
+      λ has f h none. begin (λ x. f (entry_at a.sets.now x) (entry_at a.sets.now (a.s - x))) a.s a.t (others a.t) n l (has c.gather-found.result)
+          (gathered h a.sets.now a.s a.none c.gather-found.result (a.t - others a.t) first _ _ refl refl none c.gather-found.ensures),
+    )
 
 pub loop-a-preserved : goal.loop-a-preserved
-loop-a-preserved c =
+loop-a-preserved g c =
     let a = c.args in
-    let holds = matched a.sets.now a.s in
-    let x : ℕ = a.t - others a.t in
+    let n = c.requires.next in
     let at = c.loop-a in
-    next holds a.s a.t (others a.t) c.requires.3 (lowest a.t c.requires.0) at.a _ _ c.loop-a-test.true at.invariant
-    (gathered_twice holds a.s at.a (at.a + x) at.found.ahead at.found.back _ _ _ _
-    (c.found_at-found-in-loop-a.ensures a.s at.a (part_at a.s at.a)) (c.found_at-found-in-loop-a-2.ensures a.s (at.a + x) (more_at a.s at.a x)))
+    let low : ℕ = a.t - others a.t in
+    let two = more_le a.s a.t at.a n c.requires.some at.invariant.0 in
+    let one : at.a ≤ a.s = omega arith in
+    let rest : low + (a.s - low - at.a) ≡ a.s - at.a = omega arith in
+    let more : low + at.a ≡ at.a + low = omega arith in
+    let less : a.s - low - at.a ≡ a.s - (at.a + low) = omega arith in (
+      and-within (at.a - 1) (others a.t),
+      λ has f h none. next (λ x. f (entry_at a.sets.now x) (entry_at a.sets.now (a.s - x))) a.s a.t (others a.t) n (lowest a.t c.requires.some) at.a (has at.found) _
+          c.loop-a-test.true (at.invariant.1 has f h none)
+          (gathered_twice h a.sets.now a.s at.found c.gather-found-in-loop-a.result c.gather-found-in-loop-a-2.result at.a (at.a + low) one two _ _ _ _
+          refl (later a.sets.now low (a.s - low - at.a) ∙ ap (entry_at a.sets.now) rest)
+          (later a.sets.now low at.a ∙ ap (entry_at a.sets.now) more) (ap (entry_at a.sets.now) less) c.gather-found-in-loop-a.ensures c.gather-found-in-loop-a-2.ensures),
+    )
 
 pub returns : goal.returns
-returns c =
+returns g c has f h none =
     let a = c.args in
-    done (matched a.sets.now a.s) a.s a.t (others a.t) c.requires.3 (lowest a.t c.requires.0) c.loop-a.a _ c.loop-a-test.false c.loop-a.invariant
+    done _ a.s a.t (others a.t) c.requires.next (lowest a.t c.requires.some) c.loop-a.a _ c.loop-a-test.false (c.loop-a.invariant.1 has f h none)

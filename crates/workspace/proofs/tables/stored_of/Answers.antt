@@ -6,11 +6,11 @@ use Rattle.workspace.proofs.tables.stored_of.Goals as goal
 pub returns-then-twin-s : goal.returns-then-twin-s
 returns-then-twin-s c =
     let a = c.args in
-    stored_twin a.m a.ops.now a.sets.now a.met a.s a.twin c.if-twin-s.true
+    stored_twin a.judge.now.masks a.judge.now.operators.now a.sets.now a.met a.s a.twin c.if-twin-s.true
 
 pub returns : goal.returns
 returns c =
     let a = c.args in
     let row = c.row_of-row in
     let fits : row.result.bits < 18446744073709551616 = omega arith in
-    stored_row a.m a.ops.now a.sets.now a.met a.s a.twin row.result.bits row.result.right c.turned.result fits c.turned.ensures row.ensures
+    stored_row a.judge.now.masks a.judge.now.operators.now a.sets.now a.met a.s a.twin row.result.bits row.result.right c.turned.result fits c.turned.ensures row.ensures
