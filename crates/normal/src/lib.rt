@@ -2,6 +2,7 @@
 #![tactic(auto)]
 
 ghost use Rattle.std.specs.Prelude.{◌≡◌, ◌+◌, ◌≤◌, ◌<◌, length};
+ghost use Rattle.std.specs.List.{copy_within};
 ghost use Rattle.policy.specs.Answers.{answer_code};
 ghost use Rattle.normal.specs.NormalForms.{normal_answer, normal_out};
 ghost use Rattle.normal.specs.Private.{span, lead, operand_of, Spelt, Written, Merging, Merged};
@@ -33,6 +34,27 @@ fn first_operand(op: u32, chain: &[u32]) -> &[u32]
     &operand[..words_in(operand)]
 }
 
+// Writes the words of src over those of out. Word by word, here and in `pull`: `copy_from_slice` and `copy_within` would have every program
+// that links the library bring `memmove`.
+fn copy(src: &[u32], out: &mut [u32])
+    requires { length src.now ≡ length out.old }
+    ensures { out.new ≡ src.now }
+{
+    for i in 0..src.len() {
+        out[i] = src[i];
+    }
+}
+
+// Writes the n words of out from place `from` on over those from place 1 on, which stand before them.
+fn pull(out: &mut [u32], from: usize, n: usize)
+    requires { (1 ≤ from) × (from + n ≤ length out.old) }
+    ensures { out.new ≡ copy_within out.old from (from + n) 1 }
+{
+    for i in 0..n {
+        out[1 + i] = out[from + i];
+    }
+}
+
 // Merges two chains of the operator op: a, and one that stands in out behind a gap of one word more than a.
 fn merge(op: u32, a: &[u32], out: &mut [u32])
     requires { Merging op a.now out.old }
@@ -44,18 +66,18 @@ fn merge(op: u32, a: &[u32], out: &mut [u32])
     out[0] = op;
     if operand <= &out[from..] {
         let end = 1 + operand.len();
-        out[1..end].copy_from_slice(operand);
+        copy(operand, &mut out[1..end]);
         if a[0] == op {
             merge(op, &a[end..], &mut out[end..]);
         }
     } else {
         let count = words_in(&out[from..]);
         let end = 1 + count;
-        out.copy_within(from..from + count, 1);
+        pull(out, from, count);
         if gap < from {
             merge(op, a, &mut out[end..]);
         } else {
-            out[end..end + a.len()].copy_from_slice(a);
+            copy(a, &mut out[end..end + a.len()]);
         }
     }
 }
