@@ -1,5 +1,5 @@
 // The recursive writer: the text of the term that words begin with.
-ghost use Rattle.std.specs.Prelude.{◌≡◌, ◌≤◌, length};
+ghost use Rattle.std.specs.Prelude.{◌≤◌, length};
 ghost use Rattle.policy.specs.KindsRead.{read_kind};
 ghost use Rattle.text.specs.Puts.{Put};
 ghost use Rattle.printer.specs.Private.{head_text, operator_text, leaf_text, NamesLeaf, Spelt, TermPut};
@@ -10,26 +10,29 @@ use super::sets::put_set;
 use policy::Kind;
 use text::Span;
 
-// What stands before the first side of a term of this kind.
-fn head_of(kind: Option<Kind>) -> &'static [u8]
-    ensures { result.now ≡ head_text (read_kind kind) }
+// Writes what stands before the first side of a term of this kind. Each arm copies its own literal, whose length is then known: no copy is
+// a call.
+fn put_head(kind: Option<Kind>, out: &mut [u8]) -> usize
+    requires { length (head_text (read_kind kind)) ≤ length out.old }
+    ensures { Put (head_text (read_kind kind)) out.old result out.new }
 {
     match kind {
-        Some(Kind::Not) => b"not ",
-        Some(Kind::Plus) => b"plus ",
-        _ => b"(",
+        Some(Kind::Not) => bytes::copy(b"not ", out),
+        Some(Kind::Plus) => bytes::copy(b"plus ", out),
+        _ => bytes::copy(b"(", out),
     }
 }
 
-// What stands between the sides of a term of this kind.
-fn operator_of(kind: Option<Kind>) -> &'static [u8]
-    ensures { result.now ≡ operator_text (read_kind kind) }
+// Writes what stands between the sides of a term of this kind, each arm its own literal for the same reason.
+fn put_operator(kind: Option<Kind>, out: &mut [u8]) -> usize
+    requires { length (operator_text (read_kind kind)) ≤ length out.old }
+    ensures { Put (operator_text (read_kind kind)) out.old result out.new }
 {
     match kind {
-        Some(Kind::Either) => b" or ",
-        Some(Kind::Both) => b" both ",
-        Some(Kind::Together) => b" with ",
-        _ => b" apart ",
+        Some(Kind::Either) => bytes::copy(b" or ", out),
+        Some(Kind::Both) => bytes::copy(b" both ", out),
+        Some(Kind::Together) => bytes::copy(b" with ", out),
+        _ => bytes::copy(b" apart ", out),
     }
 }
 
@@ -63,7 +66,7 @@ pub(crate) fn put_term(words: &[u32], out: &mut [u8]) -> Span
             words: 1,
         };
     }
-    let start = bytes::copy(head_of(kind), out);
+    let start = put_head(kind, out);
     let a = put_term(&words[1..], &mut out[start..]);
     let end = start + a.bytes;
     let next = 1 + a.words;
@@ -73,7 +76,7 @@ pub(crate) fn put_term(words: &[u32], out: &mut [u8]) -> Span
             words: next,
         };
     }
-    let second = end + bytes::copy(operator_of(kind), &mut out[end..]);
+    let second = end + put_operator(kind, &mut out[end..]);
     let b = put_term(&words[next..], &mut out[second..]);
     let close = second + b.bytes;
     out[close] = b')';

@@ -30,58 +30,58 @@ returns-then-sides-eq0 t c =
     record { value = put; bounds = bounded c.requires (put c.requires) }
 
 -- ── the first side ──
-pub copy-start-requires : goal.copy-start-requires
-copy-start-requires t c =
+pub put_head-start-requires : goal.put_head-start-requires
+put_head-start-requires t c =
     let e = c.sides_of-sides.ensures ∙ ap sides c.kind_of.ensures in
-    let h = c.head_of.ensures ∙ ap head_text c.of-kind.ensures in
+    let h = ap head_text c.of-kind.ensures in
     head-room c.args.words.now c.args.out.now c.requires e c.if-sides-eq0.false h
 
 pub put_term-a-requires : goal.put_term-a-requires
 put_term-a-requires t c =
     let e = c.sides_of-sides.ensures ∙ ap sides c.kind_of.ensures in
-    let h = c.head_of.ensures ∙ ap head_text c.of-kind.ensures in
-    (omega (arith, c.decreases, from-length 1 c.args.words.now, spelt-some c.requires), to_first c.args.words.now c.args.out.now c.requires e c.if-sides-eq0.false h c.copy-start.ensures)
+    let h = ap head_text c.of-kind.ensures in
+    (omega (arith, c.decreases, from-length 1 c.args.words.now, spelt-some c.requires), to_first c.args.words.now c.args.out.now c.requires e c.if-sides-eq0.false h c.put_head-start.ensures)
 
 pub returns-then-sides-eq1 : goal.returns-then-sides-eq1
 returns-then-sides-eq1 t c =
     let e = c.sides_of-sides.ensures ∙ ap sides c.kind_of.ensures in
-    let h = c.head_of.ensures ∙ ap head_text c.of-kind.ensures in
-    let put = λ (s : Spelt c.args.words.now (length c.args.out.now)). alone c.args.words.now c.args.out.now s e c.if-sides-eq0.false h c.copy-start.ensures c.put_term-a.ensures.value c.if-sides-eq1.true in
+    let h = ap head_text c.of-kind.ensures in
+    let put = λ (s : Spelt c.args.words.now (length c.args.out.now)). alone c.args.words.now c.args.out.now s e c.if-sides-eq0.false h c.put_head-start.ensures c.put_term-a.ensures.value c.if-sides-eq1.true in
     record { value = put; bounds = bounded c.requires (put c.requires) }
 
 -- ── the second side ──
-pub copy-requires : goal.copy-requires
-copy-requires t c =
+pub put_operator-requires : goal.put_operator-requires
+put_operator-requires t c =
     let e = c.sides_of-sides.ensures ∙ ap sides c.kind_of.ensures in
-    let h = c.head_of.ensures ∙ ap head_text c.of-kind.ensures in
-    let o = c.operator_of.ensures ∙ ap operator_text c.of-kind.ensures in
-    operator-room c.args.words.now c.args.out.now c.requires e c.if-sides-eq0.false h c.copy-start.ensures c.put_term-a.ensures.value c.if-sides-eq1.false o
+    let h = ap head_text c.of-kind.ensures in
+    let o = ap operator_text c.of-kind.ensures in
+    operator-room c.args.words.now c.args.out.now c.requires e c.if-sides-eq0.false h c.put_head-start.ensures c.put_term-a.ensures.value c.if-sides-eq1.false o
 
 pub put_term-b-requires : goal.put_term-b-requires
 put_term-b-requires t c =
     let e = c.sides_of-sides.ensures ∙ ap sides c.kind_of.ensures in
-    let h = c.head_of.ensures ∙ ap head_text c.of-kind.ensures in
-    let o = c.operator_of.ensures ∙ ap operator_text c.of-kind.ensures in
+    let h = ap head_text c.of-kind.ensures in
+    let o = ap operator_text c.of-kind.ensures in
     let a = c.put_term-a.ensures in (
       omega (arith, c.decreases, from-length (1 + c.put_term-a.result.words) c.args.words.now, spelt-some c.requires, a.bounds.1),
-      to_second c.args.words.now c.args.out.now c.requires e c.if-sides-eq0.false h c.copy-start.ensures a.value c.if-sides-eq1.false o c.copy.ensures,
+      to_second c.args.words.now c.args.out.now c.requires e c.if-sides-eq0.false h c.put_head-start.ensures a.value c.if-sides-eq1.false o c.put_operator.ensures,
     )
 
 pub bounds-out-close : goal.bounds-out-close
 bounds-out-close t c =
     let e = c.sides_of-sides.ensures ∙ ap sides c.kind_of.ensures in
-    let h = c.head_of.ensures ∙ ap head_text c.of-kind.ensures in
-    let o = c.operator_of.ensures ∙ ap operator_text c.of-kind.ensures in
-    let (_, g) = twice c.args.words.now c.args.out.now c.requires e c.if-sides-eq0.false h c.copy-start.ensures c.put_term-a.ensures.value c.if-sides-eq1.false o c.copy.ensures
+    let h = ap head_text c.of-kind.ensures in
+    let o = ap operator_text c.of-kind.ensures in
+    let (_, g) = twice c.args.words.now c.args.out.now c.requires e c.if-sides-eq0.false h c.put_head-start.ensures c.put_term-a.ensures.value c.if-sides-eq1.false o c.put_operator.ensures
     c.put_term-b.ensures.value in
     omega (arith, byte_room g)
 
 pub returns : goal.returns
 returns t c =
     let e = c.sides_of-sides.ensures ∙ ap sides c.kind_of.ensures in
-    let h = c.head_of.ensures ∙ ap head_text c.of-kind.ensures in
-    let o = c.operator_of.ensures ∙ ap operator_text c.of-kind.ensures in
+    let h = ap head_text c.of-kind.ensures in
+    let o = ap operator_text c.of-kind.ensures in
     let put = λ (s : Spelt c.args.words.now (length c.args.out.now)). closed
-    (twice c.args.words.now c.args.out.now s e c.if-sides-eq0.false h c.copy-start.ensures c.put_term-a.ensures.value c.if-sides-eq1.false o c.copy.ensures
+    (twice c.args.words.now c.args.out.now s e c.if-sides-eq0.false h c.put_head-start.ensures c.put_term-a.ensures.value c.if-sides-eq1.false o c.put_operator.ensures
     c.put_term-b.ensures.value) in
     record { value = put; bounds = bounded c.requires (put c.requires) }
