@@ -2,9 +2,9 @@
 ghost use Rattle.std.specs.Prelude.{◌≡◌, ◌&&◌, ◌≤◌};
 ghost use Rattle.soda.specs.Lists.{all};
 ghost use Rattle.soda.specs.Workflows.{leaves, deterministic, successor};
-ghost use Rattle.workflow.specs.Workflows.{transition_ok};
+ghost use Rattle.workflow.specs.Workflows.{transition_ok, is_idle};
 
-use super::sets::{has, with_one};
+use super::sets::with_one;
 use soda::Transition;
 
 // Whether an action takes a transition in a state.
@@ -32,7 +32,7 @@ fn transition_ok(states: u8, transition: Transition) -> bool
 }
 
 // Whether each transition is so, and no two of them have the same state and action: of each state, the actions of the transitions before are
-// kept.
+// kept, and one that adds nothing is among them.
 pub(crate) fn transitions_ok(states: u8, transitions: &[Transition]) -> bool
     requires { states ≤ 16 }
     ensures { result ≡ (all (transition_ok states) transitions.now && deterministic transitions.now) }
@@ -43,11 +43,41 @@ pub(crate) fn transitions_ok(states: u8, transitions: &[Transition]) -> bool
             return false;
         }
         let state = transition.state as usize;
-        let actions = seen[state];
-        if has(actions, transition.action) {
+        let actions = with_one(seen[state], transition.action);
+        if actions == seen[state] {
             return false;
         }
-        seen[state] = with_one(actions, transition.action);
+        seen[state] = actions;
     }
     true
+}
+
+// Whether an unused place is all zero.
+fn is_idle(transition: Transition) -> bool
+    ensures { result ≡ is_idle transition }
+{
+    (transition.state == 0) & ((transition.action == 0) & (transition.next == 0))
+}
+
+// Whether these places are unused. It goes to the end without a branch, so that the bytes of several places are tested at once.
+fn are_idle(transitions: &[Transition]) -> bool
+    ensures { result ≡ all is_idle transitions.now }
+{
+    transitions
+        .iter()
+        .fold(true, |so, &transition| so & is_idle(transition))
+}
+
+// Whether these places are unused, sixteen at a time while there are as many: their bytes then stand in three words of 16 bytes.
+pub(crate) fn idle_transitions(transitions: &[Transition]) -> bool
+    ensures { result ≡ all is_idle transitions.now }
+{
+    let mut rest = transitions;
+    while let Some((sixteen, more)) = rest.split_first_chunk::<16>() {
+        if !are_idle(sixteen) {
+            return false;
+        }
+        rest = more;
+    }
+    are_idle(rest)
 }

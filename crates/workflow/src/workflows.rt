@@ -5,8 +5,8 @@ ghost use Rattle.workflow.specs.Workflows.{transitions_of, is_given, is_final_st
 
 use super::Workflow;
 use super::sets::has;
-use super::transitions::{successor_in, transitions_ok};
-use soda::{Transition, all_are};
+use super::transitions::{idle_transitions, successor_in, transitions_ok};
+use soda::Transition;
 
 impl Workflow {
     // Not given: all zero.
@@ -53,6 +53,6 @@ impl Workflow {
             return false;
         }
         let (used, unused) = self.transitions.split_at(usize::from(self.count));
-        transitions_ok(self.states, used) && all_are(unused, Transition::IDLE)
+        transitions_ok(self.states, used) && idle_transitions(unused)
     }
 }
