@@ -52,9 +52,17 @@ pub extern "C" fn oskhrein_open(
 ) -> u8
     ensures { record { code = result; place = place.new; monitor = monitor.new } ≡ opening_lent (given users roles words.now rows.now permissions.now workflow.now) place.old }
 {
-    let opened = Monitor::open(users, roles, words, rows, permissions, workflow);
-    *monitor = opened.unwrap_or(Monitor::BLANK);
-    lend(opened, place)
+    // each arm writes where the monitor is kept: one that is chosen first is copied once more
+    match Monitor::open(users, roles, words, rows, permissions, workflow) {
+        Ok(opened) => {
+            *monitor = opened;
+            ACCEPTED
+        }
+        Err(refusal) => {
+            *monitor = Monitor::BLANK;
+            lend::<()>(Err(refusal), place)
+        }
+    }
 }
 
 // One event (document 01: the thin call on a lent sheet): alters the monitor where the caller keeps it, with the answers of the call by

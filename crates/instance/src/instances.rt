@@ -106,9 +106,11 @@ impl Instance {
     fn is_taken_ok(self, users: u32, units: u32) -> bool
         ensures { result ≡ (leb self.taken 12 && all (action_ok users units) (taken_of self)) }
     {
+        // the array alone is copied: a part of a field of `self` is taken of a copy of all of it
+        let actions = self.actions;
         let taken = self.taken as usize;
         taken <= 12
-            && self.actions[..taken]
+            && actions[..taken]
                 .iter()
                 .all(|&action| action_ok(users, units, action))
     }
@@ -118,8 +120,11 @@ impl Instance {
         requires { (self.words ≤ 31) × (self.taken ≤ 12) }
         ensures { result ≡ is_tidy self }
     {
-        let (_, words) = self.policy.split_at(self.words as usize);
-        let (_, places) = self.actions.split_at(self.taken as usize);
+        // the arrays alone are copied, as above
+        let policy = self.policy;
+        let actions = self.actions;
+        let (_, words) = policy.split_at(self.words as usize);
+        let (_, places) = actions.split_at(self.taken as usize);
         all_are(words, 0) && all_are(places, Action::IDLE)
     }
 
@@ -153,7 +158,9 @@ impl Instance {
     pub fn check(self, configuration: Configuration, user: u8) -> Option<u32>
         ensures { as_check result ≡ check_of configuration self user }
     {
-        let words = self.policy.get(..self.words as usize)?;
+        // the array alone is copied, as above
+        let policy = self.policy;
+        let words = policy.get(..self.words as usize)?;
         let survey = configuration.survey(words, user)?;
         let formed = self.is_taken_ok(configuration.users, survey.units)
             && self.is_tidy()

@@ -52,25 +52,24 @@ impl Monitor {
     }
 
     // An event to which none of 12, 15, 10 and 7 applies; its user, if it is an action, meets these unit terms, and the workspace is long
-    // enough.
-    fn perform(self, event: Event, met: u32, workspace: &mut [u32]) -> Result<Monitor, Refusal>
-        requires { Sound self.configuration self.instance × LongEnough (as_event (Some event)) workspace.old × Entered self.configuration (as_event (Some event)) × Noting self (as_event (Some event)) met }
-        ensures { record { code = answer_number result; monitor = left_after self result; workspace = workspace.new } ≡ monitor_outcome self (as_event (Some event)) workspace.old }
+    // enough. It is performed in place, since a monitor that is answered is copied once more; a refusal leaves it.
+    fn perform(&mut self, event: Event, met: u32, workspace: &mut [u32]) -> Result<(), Refusal>
+        requires { Sound self.old.configuration self.old.instance × LongEnough (as_event (Some event)) workspace.old × Entered self.old.configuration (as_event (Some event)) × Noting self.old (as_event (Some event)) met }
+        ensures { record { code = answer_number result; monitor = self.new; workspace = workspace.new } ≡ monitor_outcome self.old (as_event (Some event)) workspace.old }
     {
-        let mut next = self;
         match event {
             Event::Action { user, action } => {
-                next.instance = self.act(user, action, met, workspace)?;
+                self.instance = self.act(user, action, met, workspace)?;
             }
             Event::Grant { user, role } => {
-                next.configuration = self.configuration.with_grant(user, role);
+                self.configuration = self.configuration.with_grant(user, role);
             }
             Event::Revoke { user, role } => {
-                next.configuration = self.configuration.without_grant(user, role);
+                self.configuration = self.configuration.without_grant(user, role);
             }
-            Event::Close => next.instance = close(self.instance)?,
+            Event::Close => self.instance = close(self.instance)?,
         }
-        Ok(next)
+        Ok(())
     }
 
     // One event: the monitor that it leaves. The workspace speaks of the actions that were evaluated.
@@ -86,6 +85,8 @@ impl Monitor {
             return Err(Refusal::Closed);
         }
         let event = event.ok_or(Refusal::Malformed)?;
-        self.perform(event, met, workspace)
+        let mut next = self;
+        next.perform(event, met, workspace)?;
+        Ok(next)
     }
 }

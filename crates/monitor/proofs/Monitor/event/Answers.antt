@@ -1,5 +1,7 @@
 -- The checks in order: each return is a refusal's, or what performing the event gave.
-use Rattle.std.proofs.Common.{◌≡◌, ℕ, true, false, length, refl, sym, subst, ap, ◌∙◌, arith}
+use borrow.Author.Tests.{ne_eqb}
+use mathlib.Core.Logic.{◌≢◌}
+use Rattle.std.proofs.Common.{◌≡◌, List, ℕ, true, false, length, refl, sym, subst, ap, ◌∙◌, arith}
 use Rattle.std.specs.Prelude.{Some}
 use Rattle.std.specs.Result.{result_ok}
 use Rattle.std.proofs.lemmas.Result.{err_from_is_err_and}
@@ -8,10 +10,11 @@ use Rattle.policy.specs.Refusals.{code}
 use Rattle.policy.specs.declared.refusal.Refusal.TheVariants.{Malformed as Missing}
 use Rattle.instance.specs.declared.Instance.{Instance}
 use Rattle.instance.specs.Instances.{is_closed}
-use Rattle.monitor.specs.Events.{Event, Malformed, as_event, event_in, is_malformed, entry}
+use Rattle.monitor.specs.Events.{Event, Malformed, as_event, event_in, is_malformed, entry, Outcome, own_refusals}
 use Rattle.monitor.specs.declared.events.Event.{Event as Read}
 use Rattle.monitor.specs.declared.events.Event.TheVariants.{Action, Grant, Revoke, Close}
 use Rattle.monitor.specs.Private.{Meets, actor, monitor_outcome}
+use Rattle.monitor.specs.declared.Monitor.{Monitor}
 use Rattle.configuration.proofs.Formed.{is_configuration_formed}
 use Rattle.instance.proofs.Formed.{is_instance_formed}
 use Rattle.monitor.proofs.Formed.{formed}
@@ -95,5 +98,24 @@ returns c =
     let ok = admission_long a.self _ (sym c.is_short.ensures ∙ c.if-is_short.false) ∙ sym c.in_ok-met.ensures.number in
     let some : c.read_event-event.result ≡ Some e = c.ok_or.ensures.ok_part ∙ ap result_ok c.in_ok-event.was in
     let is : as_event (Some e) ≡ event_in a.self a.word = ap as_event (sym some) ∙ c.read_event-event.ensures in
-    c.perform.ensures ∙ ap (λ v. monitor_outcome a.self v a.workspace.now) is
+    c.in_ok-perform.ensures ∙ ap (λ v. monitor_outcome a.self v a.workspace.now) is
     ∙ performed a.self a.word a.workspace.now ok (clear a.self.instance (event_in a.self a.word) (sym c.is_closed.ensures ∙ c.if-is_closed.false) (ap is_malformed (sym is) ∙ in_form e))
+
+kept : (m : Monitor) (e : Event) (before : List ℕ) (n : ℕ) (x : Monitor) (w : List ℕ) → record { code = n; monitor = x; workspace = w } ≡ monitor_outcome m e before
+    → n ≢ 0 → x ≡ m
+kept m e before n x w k ne =
+    let c : n ≡ code (own_refusals m.configuration m.instance e) = ap (λ (o : Outcome). o.code) k in
+    ap (λ (o : Outcome). o.monitor) k ∙ rw (ne_eqb (code (own_refusals m.configuration m.instance e)) 0 (λ z. ne (c ∙ z)))
+
+pub returns-in_err-perform : goal.returns-in_err-perform
+returns-in_err-perform c =
+    let a = c.args in
+    let e = c.in_ok-event.event in
+    let r = c.in_err-perform.field-0.0 in
+    let p = err_from_is_err_and c.from_residual-in_err-perform.result c.from_residual-in_err-perform.ensures.1 in
+    let ok = admission_long a.self _ (sym c.is_short.ensures ∙ c.if-is_short.false) ∙ sym c.in_ok-met.ensures.number in
+    let some : c.read_event-event.result ≡ Some e = c.ok_or.ensures.ok_part ∙ ap result_ok c.in_ok-event.was in
+    let is : as_event (Some e) ≡ event_in a.self a.word = ap as_event (sym some) ∙ c.read_event-event.ensures in
+    let k = kept a.self (as_event (Some e)) a.workspace.now _ c.perform.new.self c.perform.new.workspace c.in_err-perform.ensures (refusal-number r) in
+    rw (p.1, p.2) (rw k at (c.in_err-perform.ensures ∙ ap (λ v. monitor_outcome a.self v a.workspace.now) is
+    ∙ performed a.self a.word a.workspace.now ok (clear a.self.instance (event_in a.self a.word) (sym c.is_closed.ensures ∙ c.if-is_closed.false) (ap is_malformed (sym is) ∙ in_form e))))

@@ -15,18 +15,18 @@ in_rows c r h d = lt-ltb r 16 (omega (arith, d, roles_most c (configuration_form
 
 pub returns-in-Grant : goal.returns-in-Grant
 returns-in-Grant c =
-    let o = c.args.self.configuration in
+    let o = c.args.self.now.configuration in
     let names = subst named c.in-Grant.is c.requires.2 in
-    rw (c.in-Grant.is, c.with_grant-next.ensures, in_rows o c.in-Grant.role c.requires.0.configuration_is_ok names.1)
+    rw (c.in-Grant.is, c.with_grant-self.ensures, in_rows o c.in-Grant.role c.requires.0.configuration_is_ok names.1)
   where
     named : Read → Type 0
-    named e = Entered c.args.self.configuration (as_event (Some e))
+    named e = Entered c.args.self.now.configuration (as_event (Some e))
 
 pub returns-in-Revoke : goal.returns-in-Revoke
 returns-in-Revoke c =
-    let o = c.args.self.configuration in
+    let o = c.args.self.now.configuration in
     let names = subst named c.in-Revoke.is c.requires.2 in
-    rw (c.in-Revoke.is, c.without_grant-next.ensures, in_rows o c.in-Revoke.role c.requires.0.configuration_is_ok names.1)
+    rw (c.in-Revoke.is, c.without_grant-self.ensures, in_rows o c.in-Revoke.role c.requires.0.configuration_is_ok names.1)
   where
     named : Read → Type 0
-    named e = Entered c.args.self.configuration (as_event (Some e))
+    named e = Entered c.args.self.now.configuration (as_event (Some e))
