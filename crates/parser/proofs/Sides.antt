@@ -188,10 +188,6 @@ is-pair pair p = refl
 as_head : (h : Grammar.Head) {v w : Head} → v ≡ w → HeadWord v h → HeadWord w h
 as_head h e p = rw e at p
 
-no_over : (v : Head) → ((w : ℕ) → v ≡ Over w → ⊥) → v ≡ Pair
-no_over (Over w) n = absurd (n w refl)
-no_over Pair n = refl
-
 -- ── the first side ──
 -- its words stand in out behind the first
 abbrev pub mid : List ℕ → List ℕ → List ℕ
@@ -242,12 +238,12 @@ module _ {t out : List ℕ} {head : Token Head} {a : Span} {words : List ℕ} (f
       (χ, headed t n head.value head.bytes h f.leaf ∙ e, record { put = rw p (put_first w (first-put n d)); room = omega (arith, s.worded.room, rest-room out (some_room out f.empty)) }))
 
   -- ── an operator ──
-  module _ (two : (w : ℕ) → head.value ≡ Over w → ⊥) where
+  module _ (two : head.value ≡ Pair) where
     paired : (n : ℕ) (d : length t ≤ suc n) → let s = first_side n d in
         term_in (suc n) t ≡ upon (operator_in (drop (head.bytes + a.bytes) t)) (λ op. upon (term_in n op.1) (λ ψ.
         keyword (ascii ")") (bin op.0 s.term ψ.0) ψ.1))
     paired n d =
-        let holds : HeadWord Pair h.thing = as_head h.thing (no_over head.value two) h.holds in
+        let holds : HeadWord Pair h.thing = as_head h.thing two h.holds in
         headed t n head.value head.bytes h f.leaf ∙ ap (λ (x : Grammar.Head). sides_in (term_in n) x (drop head.bytes t)) (is-pair h.thing holds)
         ∙ rw (first_side n d).same refl
 

@@ -1,5 +1,5 @@
 -- The contracts of private functions: what stands at a text's beginning.
-use Rattle.std.specs.Prelude.{◌≡◌, cond, List, [], ◌∷◌, ℕ, ◌+◌, ◌≤◌, ◌<◌, leb, length, take, drop, Option as Maybe, Some, None}
+use Rattle.std.specs.Prelude.{◌≡◌, cond, List, [], ◌∷◌, ℕ, ◌+◌, ◌≤◌, ◌<◌, leb, eqb, length, take, drop, Option as Maybe, Some, None}
 use Rattle.std.proofs.Math.Option.{Option, some, none}
 use Rattle.soda.specs.Terms.{Op, Term, size}
 use Rattle.soda.specs.Words.{op_word, encode}
@@ -83,6 +83,10 @@ TermRead o t out r new = Reads (λ s. s.bytes) (λ s. Worded out s new) (fitting
 -- whatever the bound, if the text is no longer
 abbrev pub Parsed : List ℕ → List ℕ → Maybe Span → List ℕ → Type 0
 Parsed t out r new = (n : ℕ) → length t ≤ n → TermRead (term_in n t) t out r new
+
+-- a span that stands for a term, which has a byte or more
+abbrev pub as_term : Span → Maybe Span
+as_term s = cond (eqb s.bytes 0) None (Some s)
 
 -- how many words of the term that a text is stand at the start of new; none where it is none
 abbrev pub WordsRead : Option Term → Maybe ℕ → List ℕ → Type 0

@@ -56,22 +56,26 @@ pub(crate) fn read_leaf(text: &[u8]) -> Option<Token<u32>>
         .or_else(|| read_set(text))
 }
 
-// What stands before a side.
+// What stands before a side: `(` is told first, and a keyword by its first letter, so that one alone is compared.
 pub(crate) fn read_head(text: &[u8]) -> Option<Token<Head>>
     ensures { HeadRead (head_in text.now) text.now result }
 {
-    read_keyword(text, b"(", Head::Pair)
-        .or_else(|| read_keyword(text, b"not ", Head::Over(Kind::Not.word(0))))
-        .or_else(|| read_keyword(text, b"plus ", Head::Over(Kind::Plus.word(0))))
+    read_keyword(text, b"(", Head::Pair).or_else(|| match text {
+        [b'n', _, _, _, ..] => read_keyword(text, b"not ", Head::Over(Kind::Not.word(0))),
+        _ => read_keyword(text, b"plus ", Head::Over(Kind::Plus.word(0))),
+    })
 }
 
-// An operator between two sides.
+// An operator between two sides, told by its first letter, so that one keyword alone is compared.
 pub(crate) fn read_operator(text: &[u8]) -> Option<Token<u32>>
     ensures value { OperatorRead (operator_in text.now) text.now result }
     ensures bounds { IfSome result (λ k. k.bytes ≤ length text.now) }
 {
-    read_keyword(text, b" or ", Kind::Either.word(0))
-        .or_else(|| read_keyword(text, b" both ", Kind::Both.word(0)))
-        .or_else(|| read_keyword(text, b" with ", Kind::Together.word(0)))
-        .or_else(|| read_keyword(text, b" apart ", Kind::Apart.word(0)))
+    match text {
+        [b' ', b'o', ..] => read_keyword(text, b" or ", Kind::Either.word(0)),
+        [b' ', b'b', ..] => read_keyword(text, b" both ", Kind::Both.word(0)),
+        [b' ', b'w', ..] => read_keyword(text, b" with ", Kind::Together.word(0)),
+        [b' ', b'a', ..] => read_keyword(text, b" apart ", Kind::Apart.word(0)),
+        _ => None,
+    }
 }
