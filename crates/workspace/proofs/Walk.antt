@@ -14,7 +14,7 @@ use Rattle.soda.specs.Bits.{bit}
 use Rattle.soda.proofs.Bools.{and_split, and-join, or_split, or_left, or_right, Order, less, same, more, order, lt_or_le}
 use Rattle.soda.proofs.Bits.{bit_of_zero}
 use Rattle.rows.proofs.Digits.{bit-and, bit-or}
-use Rattle.workspace.specs.Private.{digits, entry_at, Part, Joined, JoinedBy, Adds, Gathers, Next, sided, allowed, sided_apart}
+use Rattle.workspace.specs.Private.{digits, entry_at, Part, Joined, JoinedBy, Adds, Gathers, Next, sided, sided_in}
 use Rattle.workspace.specs.declared.entry.Entry.{Entry}
 use Rattle.workspace.proofs.Submask.{Within, Lowest, lowest, within_le, and-within, rest-within, walk, within_more, within-less}
 
@@ -143,27 +143,20 @@ adds-pair one two ahead back = record {
 }
 
 -- where users are compared
-pub adds-apart : (one two : Entry) (anyone found r : ℕ)
-    → r ≡ cond (eqb (bit_and one.users two.users) 0) (bit_or (bit_and one.row.left two.row.right) (bit_and two.row.left one.row.right))
-    (bit_and (bit_or (bit_and one.row.left two.row.right) (bit_and two.row.left one.row.right)) anyone)
-    → Adds (sided_apart anyone) one two (digits found) (digits (bit_or found r))
-adds-apart one two anyone found r e = record {
+pub adds-apart : (one two : Entry) (joint anyone found r : ℕ) → r ≡ cond (eqb (bit_and one.users two.users) 0) joint anyone
+    → Adds (sided_in joint anyone) one two (digits found)
+    (digits (bit_or found (bit_and (bit_or (bit_and one.row.left two.row.right) (bit_and two.row.left one.row.right)) r)))
+adds-apart one two joint anyone found r e = record {
   each = λ q.
-      bit-or q found r
+      bit-or q found _
       ∙ ap (λ b. bit q found || b)
-      (ap (bit q) e ∙ chosen q (eqb (bit_and one.users two.users) 0) ∙ ap (λ b. b && allowed anyone one two q) (words-at q)
-      ∙ and-or_distrib_right (sided one two q) (sided two one q) (allowed anyone one two q)
-      ∙ ap (λ n. sided one two q && allowed anyone one two q || sided two one q && (eqb n 0 || bit q anyone)) (and_comm one.users two.users));
+      (bit-and q _ r ∙ ap₂ ◌&&◌ (words-at q) (ap (bit q) e)
+      ∙ and-or_distrib_right (sided one two q) (sided two one q) (bit q (cond (eqb (bit_and one.users two.users) 0) joint anyone))
+      ∙ ap (λ n. sided_in joint anyone one two q || sided two one q && bit q (cond (eqb n 0) joint anyone)) (and_comm one.users two.users));
 }
   where
     words-at : (q : ℕ) → bit q (bit_or (bit_and one.row.left two.row.right) (bit_and two.row.left one.row.right)) ≡ (sided one two q || sided two one q)
     words-at q = simp (bit-or, bit-and)
-
-    chosen : (q : ℕ) (c : Bool) → bit q (cond c (bit_or (bit_and one.row.left two.row.right) (bit_and two.row.left one.row.right))
-        (bit_and (bit_or (bit_and one.row.left two.row.right) (bit_and two.row.left one.row.right)) anyone))
-        ≡ (bit q (bit_or (bit_and one.row.left two.row.right) (bit_and two.row.left one.row.right)) && (c || bit q anyone))
-    chosen q true = sym (and-true (bit q (bit_or (bit_and one.row.left two.row.right) (bit_and two.row.left one.row.right))))
-    chosen q false = bit-and q (bit_or (bit_and one.row.left two.row.right) (bit_and two.row.left one.row.right)) anyone
 
 -- ── what the calls gather ──
 module _ {A : Type 0} {post : A → Entry → Entry → A → Type 0} {has : A → ℕ → Bool} {f : Entry → Entry → ℕ → Bool} (g : Gathers post has f) (sets : List Entry) (s : ℕ) where
@@ -206,3 +199,12 @@ module _ (f : ℕ → ℕ → Bool) (s w : ℕ) where
 pub any-user : (j anyone m ok : Bool) → (j && anyone) ≡ j → (j && m) ≡ (j && (m && (ok || anyone)))
 any-user true anyone m ok e = rw e (sym (ap (λ b. m && b) (or-true ok) ∙ and-true m))
 any-user false anyone m ok e = refl
+
+-- at the words of `joint`, what counts is what is allowed
+pub where-counted : (q joint anyone : ℕ) (m ok : Bool) → (bit q joint && (m && bit q (cond ok joint anyone))) ≡ (bit q joint && (m && (ok || bit q anyone)))
+where-counted q joint anyone m true = absorbed (bit q joint) m
+  where
+    absorbed : (j m : Bool) → (j && (m && j)) ≡ (j && (m && true))
+    absorbed true m = refl
+    absorbed false m = refl
+where-counted q joint anyone m false = refl

@@ -89,6 +89,10 @@ allowed anyone one two q = eqb (bit_and one.users two.users) 0 || bit q anyone
 abbrev pub sided_apart : ℕ → Entry → Entry → ℕ → Bool
 sided_apart anyone one two q = sided one two q && allowed anyone one two q
 
+-- both, where the words count: at those of `joint`, or of `anyone` where a user acts in both
+abbrev pub sided_in : ℕ → ℕ → Entry → Entry → ℕ → Bool
+sided_in joint anyone one two q = sided one two q && bit q (cond (eqb (bit_and one.users two.users) 0) joint anyone)
+
 -- the digits of two sets, either way, come to those that there are
 pub record Adds (f : Entry → Entry → ℕ → Bool) (one two : Entry) (has has' : ℕ → Bool) : Type 0 where
   pub each : (q : ℕ) → has' q ≡ (has q || (f one two q || f two one q))

@@ -9,22 +9,23 @@ pub(crate) struct Stored {
     pub right: u64,
 }
 
-// A set: its row, the unit terms that all its actions met, its users, and a twin. They stand side by side, as the walks over parts
-// read them together.
+// A set: the unit terms that all its actions met, its users, a twin, and its row. They stand side by side, as the walks over parts
+// read them together. With the row last, the jump that closes a walk's loop lies within 32 aligned bytes of code, wherever its
+// function begins.
 #[derive(Clone, Copy)]
 pub(crate) struct Entry {
-    pub row: Stored,
     pub met: u32,
     pub users: u16,
     pub twin: u16,
+    pub row: Stored,
 }
 
 impl Entry {
     // What an unused place holds: all zero.
     pub(crate) const EMPTY: Self = Entry {
-        row: Stored { left: 0, right: 0 },
         met: 0,
         users: 0,
         twin: 0,
+        row: Stored { left: 0, right: 0 },
     };
 }

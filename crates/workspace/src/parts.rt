@@ -1,9 +1,8 @@
 // The ways to part a set in two, walked for the words of together and apart.
-ghost use Rattle.std.specs.Prelude.{ℕ, Bool, false, ◌≡◌, ◌-◌, ◌<◌, length};
-ghost use Rattle.workspace.specs.Private.{Joined, JoinedBy, Gathers, Adds, Next, digits, found_in, entry_at, sided, sided_apart, jointly};
+ghost use Rattle.std.specs.Prelude.{ℕ, Bool, false, cond, eqb, ◌≡◌, ◌-◌, ◌<◌, length};
+ghost use Rattle.workspace.specs.Private.{Joined, JoinedBy, Gathers, Adds, Next, digits, found_in, entry_at, sided, sided_in, jointly};
 
 use super::entry::Entry;
-use rows::counted;
 
 // What parts of a set have at left sides while their rests have it at right sides, and the other way round. They are kept apart, since
 // compilers put both sides into one operation.
@@ -25,12 +24,20 @@ impl Found {
     }
 }
 
-// What is found, with the words of one part; but where a user acts in both it and its rest, only the words of anyone.
-fn with_apart(found: u64, part: Entry, rest: Entry, anyone: u64) -> u64
-    ensures { Adds (sided_apart anyone) part rest (digits found) (digits result) }
+// Where the words of a part count: at those of joint, but where a user acts in both it and its rest, only at those of anyone. It takes
+// one of two masks, which needs fewer instructions than to leave one out.
+fn counting(joint: u64, anyone: u64, shared: u16) -> u64
+    ensures { result ≡ cond (eqb shared 0) joint anyone }
+{
+    if shared == 0 { joint } else { anyone }
+}
+
+// What is found, with the words of one part where they count.
+fn with_apart(found: u64, part: Entry, rest: Entry, joint: u64, anyone: u64) -> u64
+    ensures { Adds (sided_in joint anyone) part rest (digits found) (digits result) }
 {
     let words = (part.row.left & rest.row.right) | (rest.row.left & part.row.right);
-    found | counted(words, part.users & rest.users, anyone)
+    found | (words & counting(joint, anyone, part.users & rest.users))
 }
 
 // What is gathered of all parts of s that are neither empty nor s, each with its rest, either way; t is s without its last action. The
@@ -95,6 +102,6 @@ pub(crate) fn joints(joint: u64, anyone: u64, sets: &[Entry], s: usize, t: usize
         s,
         t,
         0,
-        |found, part, rest| with_apart(found, part, rest, anyone),
+        |found, part, rest| with_apart(found, part, rest, joint, anyone),
     ) & joint
 }

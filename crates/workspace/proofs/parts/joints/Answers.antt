@@ -4,8 +4,8 @@ use mathlib.Core.Path.{fun_ext}
 use Rattle.soda.specs.Bits.{bit}
 use Rattle.soda.proofs.Bits.{bit_of_zero}
 use Rattle.rows.proofs.Digits.{bit-and, bit-or}
-use Rattle.workspace.specs.Private.{JoinedBy, Joined, digits, found_in, users_at, sided, sided_apart, matched}
-use Rattle.workspace.proofs.Walk.{joined_one, joined_masked, any-user}
+use Rattle.workspace.specs.Private.{JoinedBy, Joined, digits, found_in, users_at, sided, sided_in, matched}
+use Rattle.workspace.proofs.Walk.{joined_one, joined_masked, any-user, where-counted}
 use Rattle.workspace.proofs.parts.joints.Goals as goal
 
 pub returns-then-t-eq0 : goal.returns-then-t-eq0
@@ -26,4 +26,7 @@ returns-then-joint-anyone c =
 pub returns : goal.returns
 returns c =
     let a = c.args in
-    joined_masked _ _ _ _ (c.joined.ensures digits (sided_apart a.anyone) (record { adds = λ x r one two p. search rules }) (λ q. bit_of_zero q))
+    let sets = a.sets.now in
+    subst (λ f. Joined f a.s (bit_and c.joined.result a.joint))
+    (fun_ext (λ x. fun_ext (λ q. where-counted q a.joint a.anyone (matched sets a.s x q) (eqb (bit_and (users_at sets x) (users_at sets (a.s - x))) 0))))
+    (joined_masked _ _ _ _ (c.joined.ensures digits (sided_in a.joint a.anyone) (record { adds = λ x r one two p. search rules }) (λ q. bit_of_zero q)))

@@ -1,6 +1,6 @@
--- What `counted` leaves of a part and the rest is what counts of them.
+-- The part's words where they count.
 use Rattle.workspace.proofs.Walk.{adds-apart}
 use Rattle.workspace.proofs.parts.with_apart.Goals as goal
 
 pub returns : goal.returns
-returns c = let a = c.args in adds-apart a.part a.rest a.anyone a.found _ c.counted.ensures
+returns c = let a = c.args in adds-apart a.part a.rest a.joint a.anyone a.found _ c.counting.ensures
