@@ -3,17 +3,17 @@ ghost use Rattle.std.specs.Prelude.{◌≡◌};
 ghost use Rattle.monitor.specs.Events.{as_event, event_of, read_event, is_short};
 
 // The kinds of event words, bits 24 to 31. `policy`'s specs/Kinds.antt has the same under the same names.
-const ACTION: u32 = 1;
+pub const ACTION: u32 = 1;
 
-const GRANT: u32 = 2;
+pub const GRANT: u32 = 2;
 
-const REVOKE: u32 = 3;
+pub const REVOKE: u32 = 3;
 
-const CLOSE: u32 = 4;
+pub const CLOSE: u32 = 4;
 
 // An event: a user executes an action with a number, is granted a role or has one revoked, or the instance is closed.
 #[derive(Clone, Copy, Debug, PartialEq, Eq)]
-pub(crate) enum Event {
+pub enum Event {
     Action { user: u8, action: u8 },
     Grant { user: u8, role: u8 },
     Revoke { user: u8, role: u8 },

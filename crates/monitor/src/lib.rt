@@ -10,6 +10,7 @@ mod trials;
 
 use configuration::Configuration;
 pub use evaluation::{Evaluation, evaluate};
+pub use events::{ACTION, CLOSE, Event, GRANT, REVOKE};
 use instance::Instance;
 
 // A monitor (document 01: sheet). It has no padding: each of its bytes is a field's.
