@@ -1,4 +1,4 @@
--- Document 01's kinds of words, bits 24 to 31. src/kinds.rt has the same under the same names.
+-- Document 01's kinds of words, bits 24 to 31. Those of policy words are the cases of `Kind` in src/kinds.rt, those of event words are `monitor`'s, under the same names.
 use Rattle.std.specs.Prelude.{ℕ}
 
 -- ── of policy words ("People, roles and policy words") ──
